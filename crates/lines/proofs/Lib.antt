@@ -1,0 +1,5 @@
+pub mod Forms
+pub mod Scans
+pub mod Masters
+pub mod Views
+pub mod Writes

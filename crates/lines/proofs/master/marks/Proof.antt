@@ -1,0 +1,80 @@
+-- The first mark from line `k` on is the first of all.
+use mathlib.Core.Path.{_≡_, refl, sym, _∙_}
+use mathlib.Core.Bool.{true, false}
+use mathlib.Core.List.{map}
+use Prim.Native.Nat.{_-_, _≤_}
+use native.Mathlib.Omega.{arith}
+use lib.ListN.{length, getD, drop}
+use borrow.Author.Needs.{needs}
+use borrow.Author.Tests.{eq-eqb, ne-eqb}
+use Rattle.lines.specs.Lines.{starts}
+use Rattle.lines.specs.Masters.{unmarked}
+use Rattle.lines.specs.Nodes.{isMarked, nodeAt}
+use Rattle.lines.specs.Verdicts.{firstFrom}
+use Rattle.lines.proofs.Masters.{nodes-none, nodes-one, first-none, first-here, first-later}
+use Rattle.lines.proofs.master.marks.Statement.{statement}
+use Rattle.lines.proofs.master.marks.Tie as tie
+
+abbrev Inv-loop : tie.InvT-loop
+Inv-loop s starts k₀ k = (k ≤ length starts) × (firstFrom isMarked k (map (nodeAt s) (drop k starts)) ≡ unmarked (map (nodeAt s) starts))
+
+abbrev μ-loop : tie.MeasureT-loop
+μ-loop s starts k₀ k = length starts - k
+
+loop-holds : tie.Need-loop-holds Inv-loop μ-loop
+unfolding unmarked
+loop-holds c = (omega arith, refl)
+
+mul-mark-at : tie.Need-mul-mark-at Inv-loop μ-loop
+mul-mark-at c = search needs
+
+shared-slice-read-mark-at : tie.Need-shared-slice-read-mark-at Inv-loop μ-loop
+shared-slice-read-mark-at c = search needs
+
+mark-at-requires : tie.Need-mark-at-requires Inv-loop μ-loop
+mark-at-requires c κs = search needs
+
+returns : tie.Need-returns Inv-loop μ-loop
+unfolding isMarked
+returns c =
+    let a = c .before .before .before .before .before .before .before .args in
+    let here = nodes-one (nodeAt (a .s .now)) (a .starts .now) (c .before .before .before .before .loop .k) (c .before .before .before .loop-test .taken) in
+    let n = nodeAt (a .s .now) (getD (a .starts .now) (c .before .before .before .before .loop .k) 0) in
+    let marked : isMarked n ≡ true = rw (← c .before .mark-at .ensures, ne-eqb _ 0 (c .if1 .taken)) in
+    sym (rw here (first-here isMarked (c .before .before .before .before .loop .k) n _ marked)) ∙ c .before .before .before .before .loop .inv .1
+
+add-k : tie.Need-add-k Inv-loop μ-loop
+add-k c = search needs
+
+loop-less : tie.Need-loop-less Inv-loop μ-loop
+loop-less c = search needs
+
+loop-again : tie.Need-loop-again Inv-loop μ-loop
+unfolding isMarked
+loop-again c =
+    let a = c .before .before .before .before .before .before .before .args in
+    let here = nodes-one (nodeAt (a .s .now)) (a .starts .now) (c .before .before .before .before .loop .k) (c .before .before .before .loop-test .taken) in
+    let n = nodeAt (a .s .now) (getD (a .starts .now) (c .before .before .before .before .loop .k) 0) in
+    let clear : isMarked n ≡ false = rw (← c .before .mark-at .ensures, eq-eqb _ 0 (c .if1 .left)) in
+    (omega arith, sym (rw here (first-later isMarked (c .before .before .before .before .loop .k) n _ clear)) ∙ c .before .before .before .before .loop .inv .1)
+
+returns-2 : tie.Need-returns-2 Inv-loop μ-loop
+returns-2 c =
+    let a = c .before .before .before .before .args in
+    sym (rw (nodes-none (nodeAt (a .s .now)) (a .starts .now) (c .before .loop .k) (c .loop-test .left)) (first-none isMarked (c .before .loop .k))) ∙ c .before .loop .inv .1
+
+pub marks-spec : {M : Type 1} → statement M
+marks-spec =
+    tie.close
+    (tie.spec
+    Inv-loop
+    μ-loop
+    loop-holds
+    mul-mark-at
+    shared-slice-read-mark-at
+    mark-at-requires
+    returns
+    add-k
+    loop-less
+    loop-again
+    returns-2)

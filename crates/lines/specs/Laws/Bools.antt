@@ -1,0 +1,32 @@
+-- Both halves of a conjunction, and the two ways through a choice.
+use mathlib.Core.Path.{_≡_, refl, sym, subst}
+use mathlib.Core.Bool.{Bool, true, false, cond, _&&_, _||_}
+use lib.Dec.{T}
+
+pub never : {P : Type 0} → false ≡ true → P
+never e = absurd (subst T (sym e) tt)
+
+pub and-left : (a b : Bool) → (a && b) ≡ true → a ≡ true
+and-left true b e = refl
+and-left false b e = e
+
+pub and-right : (a b : Bool) → (a && b) ≡ true → b ≡ true
+and-right true b e = e
+and-right false b e = never e
+
+pub and-both : (a b : Bool) → a ≡ true → b ≡ true → (a && b) ≡ true
+and-both true b e f = f
+and-both false b e f = e
+
+pub or-cases : {P : Type 0} (a b : Bool) → (a ≡ true → P) → (b ≡ true → P) → (a || b) ≡ true → P
+or-cases true b f g e = f refl
+or-cases false b f g e = g e
+
+-- what holds on both ways through a choice that came out true
+pub cond-cases : {P : Type 0} (t a b : Bool) → (a ≡ true → P) → (b ≡ true → P) → cond t a b ≡ true → P
+cond-cases true a b f g e = f e
+cond-cases false a b f g e = g e
+
+pub is-true : (t : Bool) → T t → t ≡ true
+is-true true h = refl
+is-true false h = absurd h

@@ -1,0 +1,11 @@
+pub mod Hex
+pub mod Lines
+pub mod Texts
+pub mod Nodes
+pub mod Entries
+pub mod Files
+pub mod Verdicts
+pub mod Masters
+pub mod Views
+pub mod Writing
+pub mod Laws

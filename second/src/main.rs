@@ -1,0 +1,100 @@
+//! The commands of the second program.
+
+use second::calls;
+use second::cases;
+use second::demand3::{self, Verdict};
+use second::file::{self, LONGEST_NODE_FILE, LONGEST_PROGRAM};
+use second::replay;
+use second::rules::Rules;
+use second::stream::{self, Call, Case, Next};
+use std::io::{self, BufReader, BufWriter, Write};
+use std::path::Path;
+use std::process::ExitCode;
+
+const USAGE: &str = "usage: second show DIR | putback DIR | replay | cases SEED COUNT | check";
+
+fn main() -> ExitCode {
+    let arguments: Vec<String> = std::env::args().skip(1).collect();
+    let words: Vec<&str> = arguments.iter().map(String::as_str).collect();
+    let done = match words.as_slice() {
+        ["show", folder] => one_call(Call::Show, Path::new(folder)),
+        ["putback", folder] => one_call(Call::PutBack, Path::new(folder)),
+        ["replay"] => replay_input(),
+        ["cases", seed, count] => match (seed.parse(), count.parse()) {
+            (Ok(seed), Ok(count)) => write_cases(seed, count),
+            _ => usage(),
+        },
+        ["check"] => check_input(),
+        _ => usage(),
+    };
+    done.unwrap_or(ExitCode::FAILURE)
+}
+
+fn usage() -> io::Result<ExitCode> {
+    eprintln!("{USAGE}");
+    Ok(ExitCode::from(2))
+}
+
+fn one_call(call: Call, folder: &Path) -> io::Result<ExitCode> {
+    let printed = match read_folder(call, folder) {
+        Ok(case) => calls::answer(&case, &Rules::document()).printed(),
+        Err(_) => b"FF00000000\n".to_vec(),
+    };
+    io::stdout().write_all(&printed)?;
+    Ok(ExitCode::SUCCESS)
+}
+
+fn read_folder(call: Call, folder: &Path) -> io::Result<Case> {
+    let master = file::read(folder, "master.hex", LONGEST_NODE_FILE)?;
+    let program = file::read(folder, "program.hex", LONGEST_PROGRAM)?;
+    let view = match call {
+        Call::Show => Vec::new(),
+        Call::PutBack => file::read(folder, "view.hex", LONGEST_NODE_FILE)?,
+    };
+    Ok(Case::with_least_rooms(call, master, program, view))
+}
+
+fn replay_input() -> io::Result<ExitCode> {
+    let mut input = BufReader::new(io::stdin());
+    let mut output = BufWriter::new(io::stdout());
+    replay::replay(&mut input, &mut output, &Rules::document())?;
+    output.flush()?;
+    Ok(ExitCode::SUCCESS)
+}
+
+fn write_cases(seed: u64, count: usize) -> io::Result<ExitCode> {
+    let mut output = BufWriter::new(io::stdout());
+    for index in 0..count {
+        let mut bytes = Vec::new();
+        cases::case(seed, index).write(&mut bytes);
+        output.write_all(&bytes)?;
+    }
+    output.flush()?;
+    Ok(ExitCode::SUCCESS)
+}
+
+fn check_input() -> io::Result<ExitCode> {
+    let rules = Rules::document();
+    let mut input = BufReader::new(io::stdin());
+    let (mut cases, mut checked) = (0, 0);
+    loop {
+        match stream::read(&mut input) {
+            Next::Case(case) => match demand3::check(&case, &rules) {
+                Verdict::DoesNotApply => {}
+                Verdict::Holds => checked += 1,
+                Verdict::Violated => {
+                    println!("case {cases} violates demand 3");
+                    return Ok(ExitCode::FAILURE);
+                }
+            },
+            Next::End => break,
+            Next::Broken => {
+                println!("the stream is broken behind {cases} cases");
+                return Ok(ExitCode::FAILURE);
+            }
+        }
+        cases += 1;
+    }
+    println!("{cases} cases, demand 3 checked on {checked} of them");
+    Ok(ExitCode::SUCCESS)
+}

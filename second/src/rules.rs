@@ -1,0 +1,253 @@
+//! What document 01 fixes, as values. `Rules::document()` is document 01; the tests change one
+//! value at a time to see that the committed cases tell each wrong reading apart.
+
+#[derive(Clone, Debug)]
+pub struct Rules {
+    pub rooms: Rooms,
+    pub lines: Lines,
+    pub bounds: Bounds,
+    pub showing: Showing,
+    pub putting_back: PuttingBack,
+    pub judging: Judging,
+}
+
+/// The least rooms a caller has to bring.
+#[derive(Clone, Debug)]
+pub struct Rooms {
+    pub output: u32,
+    pub work: u32,
+}
+
+/// The form of files and lines.
+#[derive(Clone, Debug)]
+pub struct Lines {
+    pub program_lines: usize,
+    pub node_lines: usize,
+    pub longest_text: usize,
+    pub first_tag_byte: u8,
+    pub last_tag_byte: u8,
+    pub lower_case_digits: bool,
+    pub last_line_may_lack_its_end: bool,
+    pub number_low_byte_first: bool,
+    pub element_may_be_changed: bool,
+}
+
+/// The bounds of masters, programs and values.
+#[derive(Clone, Debug)]
+pub struct Bounds {
+    pub master_depth: u8,
+    pub levels: usize,
+    pub eaches: usize,
+    pub binds: usize,
+    pub value_nodes: usize,
+    pub joined_nodes: usize,
+    pub value_depth: usize,
+    pub entries_may_be_left_over: bool,
+    pub missing_entry_is_behind_the_last: bool,
+    pub tests_see_the_slots: bool,
+}
+
+#[derive(Clone, Debug)]
+pub struct Showing {
+    pub innermost_slot_counts: bool,
+    pub parts_run_from_the_left: bool,
+    pub each_stops_early: bool,
+    pub bind_runs_on_nothing: bool,
+    pub equals_runs_on_nothing: bool,
+    pub equals_checks_its_source_first: bool,
+    pub equals_sees_spaces_behind: bool,
+    pub tests_stop_for_their_source: bool,
+    pub marks_are_kept: bool,
+}
+
+#[derive(Clone, Debug)]
+pub struct PuttingBack {
+    pub merging: Merging,
+    pub locking: Locking,
+    pub edits_go_by: EditsGoBy,
+    pub slot_edits_are_kept: bool,
+    pub slot_edits_are_merged: bool,
+    pub beside_keeps_both: bool,
+    pub both_branches_keep_edits: bool,
+    pub within_takes_the_mark: bool,
+    pub old_text_is_a_change: bool,
+    pub deletion_spreads: bool,
+    pub deleted_keep_their_contents: bool,
+}
+
+#[derive(Clone, Copy, Debug, PartialEq, Eq)]
+pub enum Merging {
+    Document,
+    FirstWins,
+    LastWins,
+    UntouchedVotes,
+    EqualsClash,
+    DeletedBeatsLocked,
+    ClashYields,
+}
+
+#[derive(Clone, Copy, Debug, PartialEq, Eq)]
+pub enum Locking {
+    Both,
+    SourceOnly,
+    ResultOnly,
+    OnlyWhereEqual,
+    Nothing,
+}
+
+#[derive(Clone, Copy, Debug, PartialEq, Eq)]
+pub enum EditsGoBy {
+    Number,
+    Place,
+    Text,
+}
+
+#[derive(Clone, Debug)]
+pub struct Judging {
+    pub order: Vec<Stage>,
+    pub marked_master: MarkedMaster,
+    pub count_before_lines: bool,
+    pub count_place: CountPlace,
+    pub numbers_are_compared: bool,
+    pub deleted_bytes_are_compared: bool,
+    pub clash_place: ClashPlace,
+}
+
+/// What is judged, each for one number of the table (the run for 6 and 7).
+#[derive(Clone, Copy, Debug, PartialEq, Eq)]
+pub enum Stage {
+    Rooms,
+    ProgramForm,
+    ProgramTree,
+    MasterForm,
+    MasterBounds,
+    Run,
+    ViewForm,
+    ViewComparison,
+    ProgramMarks,
+    Clash,
+}
+
+#[derive(Clone, Copy, Debug, PartialEq, Eq)]
+pub enum MarkedMaster {
+    RefusedByPutBack,
+    NeverRefused,
+    AlwaysRefused,
+}
+
+#[derive(Clone, Copy, Debug, PartialEq, Eq)]
+pub enum CountPlace {
+    Shorter,
+    Longer,
+}
+
+#[derive(Clone, Copy, Debug, PartialEq, Eq)]
+pub enum ClashPlace {
+    Least,
+    Greatest,
+}
+
+impl Rules {
+    pub fn document() -> Rules {
+        Rules {
+            rooms: Rooms { output: 9_856, work: 16_384 },
+            lines: Lines::document(),
+            bounds: Bounds::document(),
+            showing: Showing::document(),
+            putting_back: PuttingBack::document(),
+            judging: Judging::document(),
+        }
+    }
+}
+
+impl Lines {
+    fn document() -> Lines {
+        Lines {
+            program_lines: 96,
+            node_lines: 128,
+            longest_text: 32,
+            first_tag_byte: 0x21,
+            last_tag_byte: 0x7E,
+            lower_case_digits: false,
+            last_line_may_lack_its_end: false,
+            number_low_byte_first: false,
+            element_may_be_changed: false,
+        }
+    }
+}
+
+impl Bounds {
+    fn document() -> Bounds {
+        Bounds {
+            master_depth: 7,
+            levels: 12,
+            eaches: 3,
+            binds: 4,
+            value_nodes: 128,
+            joined_nodes: 128,
+            value_depth: 9,
+            entries_may_be_left_over: false,
+            missing_entry_is_behind_the_last: true,
+            tests_see_the_slots: true,
+        }
+    }
+}
+
+impl Showing {
+    fn document() -> Showing {
+        Showing {
+            innermost_slot_counts: true,
+            parts_run_from_the_left: true,
+            each_stops_early: true,
+            bind_runs_on_nothing: true,
+            equals_runs_on_nothing: true,
+            equals_checks_its_source_first: true,
+            equals_sees_spaces_behind: true,
+            tests_stop_for_their_source: true,
+            marks_are_kept: true,
+        }
+    }
+}
+
+impl PuttingBack {
+    fn document() -> PuttingBack {
+        PuttingBack {
+            merging: Merging::Document,
+            locking: Locking::Both,
+            edits_go_by: EditsGoBy::Number,
+            slot_edits_are_kept: true,
+            slot_edits_are_merged: true,
+            beside_keeps_both: true,
+            both_branches_keep_edits: true,
+            within_takes_the_mark: true,
+            old_text_is_a_change: true,
+            deletion_spreads: false,
+            deleted_keep_their_contents: true,
+        }
+    }
+}
+
+impl Judging {
+    fn document() -> Judging {
+        Judging {
+            order: vec![
+                Stage::Rooms,
+                Stage::ProgramForm,
+                Stage::ProgramTree,
+                Stage::MasterForm,
+                Stage::MasterBounds,
+                Stage::Run,
+                Stage::ViewForm,
+                Stage::ViewComparison,
+                Stage::ProgramMarks,
+                Stage::Clash,
+            ],
+            marked_master: MarkedMaster::RefusedByPutBack,
+            count_before_lines: false,
+            count_place: CountPlace::Shorter,
+            numbers_are_compared: true,
+            deleted_bytes_are_compared: true,
+            clash_place: ClashPlace::Least,
+        }
+    }
+}

@@ -1,0 +1,78 @@
+//! The view beside the fresh one: replies 9 and 10, and the standings its lines bring.
+
+use crate::node_line::{FROM_PROGRAM, Mark, NodeLine};
+use crate::rules::{CountPlace, EditsGoBy, Judging, PuttingBack};
+use crate::standing::Standing;
+use crate::text;
+use crate::tree::{self, Value};
+
+/// The place of reply 9, if the views differ where they may not.
+pub fn first_difference(fresh: &[NodeLine], view: &[NodeLine], rules: &Judging) -> Option<usize> {
+    let by_count = (fresh.len() != view.len()).then(|| match rules.count_place {
+        CountPlace::Shorter => fresh.len().min(view.len()),
+        CountPlace::Longer => fresh.len().max(view.len()),
+    });
+    let by_line = fresh.iter().zip(view).position(|(fresh, line)| differs(fresh, line, rules));
+    match rules.count_before_lines {
+        false => by_line.or(by_count),
+        true => by_count.or(by_line),
+    }
+}
+
+fn differs(fresh: &NodeLine, line: &NodeLine, rules: &Judging) -> bool {
+    let bytes_may_differ = match line.mark {
+        Mark::Untouched => false,
+        Mark::Changed => true,
+        Mark::Deleted => !rules.deleted_bytes_are_compared,
+    };
+    fresh.depth != line.depth
+        || fresh.kind != line.kind
+        || (rules.numbers_are_compared && fresh.number != line.number)
+        || (!bytes_may_differ && !text::equal(&fresh.bytes, &line.bytes))
+}
+
+/// The place of reply 10: the first line from the program that has a mark.
+pub fn first_marked_program_line(view: &[NodeLine]) -> Option<usize> {
+    view.iter().position(|line| line.number == FROM_PROGRAM && line.mark != Mark::Untouched)
+}
+
+/// What a view line brings.
+pub fn brings(fresh: &NodeLine, line: &NodeLine, rules: &PuttingBack) -> Standing {
+    match line.mark {
+        Mark::Untouched => Standing::Untouched,
+        Mark::Changed if !rules.old_text_is_a_change && text::equal(&fresh.bytes, &line.bytes) => {
+            Standing::Untouched
+        }
+        Mark::Changed => Standing::Changed(line.bytes.clone()),
+        Mark::Deleted => Standing::Deleted,
+    }
+}
+
+/// The fresh value with the standings that the view's lines bring.
+pub fn with_standings(
+    mut value: Value,
+    fresh: &[NodeLine],
+    view: &[NodeLine],
+    rules: &PuttingBack,
+) -> Value {
+    let mut place = 0;
+    tree::for_each_node(&mut value, &mut |node| {
+        if let Some(at) = line_of(place, fresh, rules.edits_go_by) {
+            node.standing = brings(&fresh[at], &view[at], rules);
+        }
+        place += 1;
+    });
+    value
+}
+
+/// The line whose edit the node shown at a place gets: its own, as numbers are equal there.
+fn line_of(place: usize, fresh: &[NodeLine], edits_go_by: EditsGoBy) -> Option<usize> {
+    let own = &fresh[place];
+    match edits_go_by {
+        EditsGoBy::Number => Some(place),
+        EditsGoBy::Place => Some(usize::from(own.number)).filter(|&at| at < fresh.len()),
+        EditsGoBy::Text => {
+            fresh.iter().position(|line| line.kind == own.kind && line.bytes == own.bytes)
+        }
+    }
+}

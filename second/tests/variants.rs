@@ -1,0 +1,184 @@
+//! Deliberately wrong readings of document 01, each of which the committed cases tell apart.
+
+use second::calls;
+use second::committed;
+use second::rules::{
+    ClashPlace, CountPlace, EditsGoBy, Locking, MarkedMaster, Merging, Rules, Stage,
+};
+
+type Variant = (&'static str, fn(&mut Rules));
+
+const WRONG_ROOMS_AND_LINES: [Variant; 12] = [
+    ("an output of 9,855 bytes is enough", |rules| rules.rooms.output = 9_855),
+    ("a work slice of 16,383 numbers is enough", |rules| rules.rooms.work = 16_383),
+    ("line 96 of a program is read", |rules| rules.lines.program_lines = 97),
+    ("line 128 of a master or view is read", |rules| rules.lines.node_lines = 129),
+    ("a text may have 33 bytes", |rules| rules.lines.longest_text = 33),
+    ("a tag may hold byte 20", |rules| rules.lines.first_tag_byte = 0x20),
+    ("a tag may hold byte 7F", |rules| rules.lines.last_tag_byte = 0x7F),
+    ("lower-case digits are digits", |rules| rules.lines.lower_case_digits = true),
+    ("the last line may lack its 0A", |rules| rules.lines.last_line_may_lack_its_end = true),
+    ("the number has its low byte first", |rules| rules.lines.number_low_byte_first = true),
+    ("an element may be changed", |rules| rules.lines.element_may_be_changed = true),
+    ("a master may be 8 deep", |rules| rules.bounds.master_depth = 8),
+];
+
+const WRONG_PROGRAMS_AND_RUNS: [Variant; 18] = [
+    ("level 13 is allowed", |rules| rules.bounds.levels = 13),
+    ("a fourth 0A is allowed", |rules| rules.bounds.eaches = 4),
+    ("a fifth 0C is allowed", |rules| rules.bounds.binds = 5),
+    ("entries may be left over", |rules| rules.bounds.entries_may_be_left_over = true),
+    ("a missing entry is placed at the last line", |rules| {
+        rules.bounds.missing_entry_is_behind_the_last = false;
+    }),
+    ("X of a test does not see the slots", |rules| rules.bounds.tests_see_the_slots = false),
+    ("07 may yield 129 nodes", |rules| rules.bounds.value_nodes = 129),
+    ("09 and 0A may join 129 nodes", |rules| rules.bounds.joined_nodes = 129),
+    ("a value may be 10 deep", |rules| rules.bounds.value_depth = 10),
+    ("the outer slot counts", |rules| rules.showing.innermost_slot_counts = false),
+    ("0A looks at the size at its end", |rules| rules.showing.each_stops_early = false),
+    ("0C runs X on the source", |rules| rules.showing.bind_runs_on_nothing = false),
+    ("11 runs X on the source", |rules| rules.showing.equals_runs_on_nothing = false),
+    ("11 checks its source behind X", |rules| {
+        rules.showing.equals_checks_its_source_first = false;
+    }),
+    ("11 overlooks spaces behind a text", |rules| {
+        rules.showing.equals_sees_spaces_behind = false;
+    }),
+    ("12 and 13 say no where they should stop", |rules| {
+        rules.showing.tests_stop_for_their_source = false;
+    }),
+    ("parts and items run from the right", |rules| {
+        rules.showing.parts_run_from_the_left = false;
+    }),
+    ("shown nodes lose their marks", |rules| rules.showing.marks_are_kept = false),
+];
+
+const WRONG_PUT_BACKS: [Variant; 20] = [
+    ("the first copy wins", |rules| rules.putting_back.merging = Merging::FirstWins),
+    ("the last copy wins", |rules| rules.putting_back.merging = Merging::LastWins),
+    ("an untouched copy votes", |rules| rules.putting_back.merging = Merging::UntouchedVotes),
+    ("equal edits clash", |rules| rules.putting_back.merging = Merging::EqualsClash),
+    ("a compared text may be deleted", |rules| {
+        rules.putting_back.merging = Merging::DeletedBeatsLocked;
+    }),
+    ("a clash yields to a later standing", |rules| {
+        rules.putting_back.merging = Merging::ClashYields;
+    }),
+    ("11 locks its source only", |rules| rules.putting_back.locking = Locking::SourceOnly),
+    ("11 locks its result only", |rules| rules.putting_back.locking = Locking::ResultOnly),
+    ("11 locks only where it says yes", |rules| {
+        rules.putting_back.locking = Locking::OnlyWhereEqual;
+    }),
+    ("11 locks nothing", |rules| rules.putting_back.locking = Locking::Nothing),
+    ("edits go by place", |rules| rules.putting_back.edits_go_by = EditsGoBy::Place),
+    ("edits go by text", |rules| rules.putting_back.edits_go_by = EditsGoBy::Text),
+    ("a slot forgets its edits", |rules| rules.putting_back.slot_edits_are_kept = false),
+    ("a slot keeps the last view only", |rules| {
+        rules.putting_back.slot_edits_are_merged = false;
+    }),
+    ("09 forgets the edits of its second part", |rules| {
+        rules.putting_back.beside_keeps_both = false;
+    }),
+    ("0B forgets the edits of its second branch", |rules| {
+        rules.putting_back.both_branches_keep_edits = false;
+    }),
+    ("07 forgets the mark", |rules| rules.putting_back.within_takes_the_mark = false),
+    ("the old text is no change", |rules| rules.putting_back.old_text_is_a_change = false),
+    ("deletion spreads to the contents", |rules| rules.putting_back.deletion_spreads = true),
+    ("a deleted node loses its contents", |rules| {
+        rules.putting_back.deleted_keep_their_contents = false;
+    }),
+];
+
+const WRONG_JUDGING: [Variant; 15] = [
+    ("4 is judged before 2", |rules| before(rules, Stage::MasterForm, Stage::ProgramForm)),
+    ("4 is judged before 3", |rules| before(rules, Stage::MasterForm, Stage::ProgramTree)),
+    ("2 is judged before 1", |rules| before(rules, Stage::ProgramForm, Stage::Rooms)),
+    ("8 is judged before 6 and 7", |rules| before(rules, Stage::ViewForm, Stage::Run)),
+    ("8 is judged before 5", |rules| before(rules, Stage::ViewForm, Stage::MasterBounds)),
+    ("10 is judged before 9", |rules| before(rules, Stage::ProgramMarks, Stage::ViewComparison)),
+    ("11 is judged before 10", |rules| before(rules, Stage::Clash, Stage::ProgramMarks)),
+    ("10 is never given", |rules| {
+        rules.judging.order.retain(|&stage| stage != Stage::ProgramMarks);
+    }),
+    ("a marked master is put back into", |rules| {
+        rules.judging.marked_master = MarkedMaster::NeverRefused;
+    }),
+    ("a marked master is not shown", |rules| {
+        rules.judging.marked_master = MarkedMaster::AlwaysRefused;
+    }),
+    ("the count is compared before the lines", |rules| rules.judging.count_before_lines = true),
+    ("a difference in count stands at the longer one", |rules| {
+        rules.judging.count_place = CountPlace::Longer;
+    }),
+    ("numbers are not compared", |rules| rules.judging.numbers_are_compared = false),
+    ("the bytes of deleted lines are not compared", |rules| {
+        rules.judging.deleted_bytes_are_compared = false;
+    }),
+    ("the greatest clash is named", |rules| rules.judging.clash_place = ClashPlace::Greatest),
+];
+
+const BOUNDS_ONE_TOO_TIGHT: [Variant; 14] = [
+    ("an output of 9,856 bytes is too short", |rules| rules.rooms.output = 9_857),
+    ("a work slice of 16,384 numbers is too short", |rules| rules.rooms.work = 16_385),
+    ("line 95 of a program is refused", |rules| rules.lines.program_lines = 95),
+    ("line 127 of a master or view is refused", |rules| rules.lines.node_lines = 127),
+    ("a text may have 31 bytes at most", |rules| rules.lines.longest_text = 31),
+    ("a tag may not hold byte 21", |rules| rules.lines.first_tag_byte = 0x22),
+    ("a tag may not hold byte 7E", |rules| rules.lines.last_tag_byte = 0x7D),
+    ("a master may be 6 deep at most", |rules| rules.bounds.master_depth = 6),
+    ("level 12 is refused", |rules| rules.bounds.levels = 11),
+    ("a third 0A is refused", |rules| rules.bounds.eaches = 2),
+    ("a fourth 0C is refused", |rules| rules.bounds.binds = 3),
+    ("a value may be 8 deep at most", |rules| rules.bounds.value_depth = 8),
+    ("07 may yield 127 nodes at most", |rules| rules.bounds.value_nodes = 127),
+    ("09 and 0A may join 127 nodes at most", |rules| rules.bounds.joined_nodes = 127),
+];
+
+fn before(rules: &mut Rules, early: Stage, late: Stage) {
+    let order = &mut rules.judging.order;
+    order.retain(|&stage| stage != early);
+    let place = order.iter().position(|&stage| stage == late).expect("a stage of the order");
+    order.insert(place, early);
+}
+
+/// In how many committed cases each variant answers otherwise.
+fn told_apart(variants: &[Variant]) {
+    let cases = committed::cases();
+    let document = Rules::document();
+    let right: Vec<_> = cases.iter().map(|case| calls::answer(case, &document)).collect();
+    for (name, change) in variants {
+        let mut rules = Rules::document();
+        change(&mut rules);
+        let answers = cases.iter().map(|case| calls::answer(case, &rules));
+        let different = answers.zip(&right).filter(|(answer, right)| answer != *right).count();
+        println!("{different:5} {name}");
+        assert!(different > 0, "no committed case tells apart: {name}");
+    }
+}
+
+#[test]
+fn wrong_rooms_and_lines_are_told_apart() {
+    told_apart(&WRONG_ROOMS_AND_LINES);
+}
+
+#[test]
+fn bounds_one_too_tight_are_told_apart() {
+    told_apart(&BOUNDS_ONE_TOO_TIGHT);
+}
+
+#[test]
+fn wrong_programs_and_runs_are_told_apart() {
+    told_apart(&WRONG_PROGRAMS_AND_RUNS);
+}
+
+#[test]
+fn wrong_ways_of_putting_back_are_told_apart() {
+    told_apart(&WRONG_PUT_BACKS);
+}
+
+#[test]
+fn wrong_judging_is_told_apart() {
+    told_apart(&WRONG_JUDGING);
+}
