@@ -9,8 +9,8 @@ use lib.ListN.{length, getD, drop, drop-of-length-le}
 use Rattle.lines.specs.Hex.{isHex, pairAt, decode}
 use Rattle.lines.specs.Lines.{pairsThenEnd}
 use Rattle.lines.specs.Nodes.{allOf}
-use Rattle.lines.specs.Laws.Lists.{drop-one, drop-two}
-use Rattle.lines.specs.Laws.Pairs.{decode-pair, decode-end}
+use Rattle.lines.specs.Theorems.Lists.{drop-one, drop-two}
+use Rattle.lines.specs.Theorems.Pairs.{decode-pair, decode-end}
 
 -- the rest of a line: its last byte, a pair more, and nothing
 module _ (s : List ℕ) (i : ℕ) where

@@ -12,8 +12,8 @@ use Rattle.lines.specs.declared.verdict.Verdict.the-variants.{Fine, Faul
 use Rattle.lines.specs.Nodes.{Node}
 use Rattle.lines.specs.Masters.{depthAfter, placed, boundsFrom}
 use Rattle.lines.specs.Verdicts.{firstFrom}
-use Rattle.lines.specs.Laws.Bools.{and-left, and-right}
-use Rattle.lines.specs.Laws.Lists.{drop-one}
+use Rattle.lines.specs.Theorems.Bools.{and-left, and-right}
+use Rattle.lines.specs.Theorems.Lists.{drop-one}
 
 -- the nodes from line k on, read at their places
 module _ (read : ℕ → Node) (places : List ℕ) (k : ℕ) where

@@ -12,7 +12,7 @@ use Rattle.lines.specs.declared.verdict.Verdict.the-variants.{Fine, Faul
 use Rattle.lines.specs.Nodes.{Node, nodeAt}
 use Rattle.lines.specs.Texts.{textAt, sameText}
 use Rattle.lines.specs.Views.{sameHead, sameLine, differenceFrom}
-use Rattle.lines.specs.Laws.Lists.{drop-one}
+use Rattle.lines.specs.Theorems.Lists.{drop-one}
 
 -- texts from byte j on: one byte more, and none
 module _ (a b : List ℕ) (j : ℕ) where

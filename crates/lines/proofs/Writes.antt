@@ -10,8 +10,8 @@ use lib.Seq.{sets, sets-eq, take-suc, length-take-le}
 use Rattle.lines.specs.Hex.{encode}
 use Rattle.lines.specs.Nodes.{Node}
 use Rattle.lines.specs.Writing.{bytesOf, lineOf, putAt}
-use Rattle.lines.specs.Laws.Pairs.{length-encode, encode-append}
-use Rattle.lines.specs.Laws.RoundTrip.{length-line}
+use Rattle.lines.specs.Theorems.Pairs.{length-encode, encode-append}
+use Rattle.lines.specs.Theorems.RoundTrip.{length-line}
 
 sets-append : (l : List ℕ) (i : ℕ) (a b : List ℕ) → sets (sets l i a) (i + length a) b ≡ sets l i (a ++ b)
 sets-append l i [] b = ap (λ (k : ℕ). sets l k b) (add-zero i)

@@ -8,4 +8,4 @@ pub mod Verdicts
 pub mod Masters
 pub mod Views
 pub mod Writing
-pub mod Laws
+pub mod Theorems

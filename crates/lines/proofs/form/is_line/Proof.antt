@@ -2,7 +2,7 @@
 use mathlib.Core.Path.{sym, _∙_}
 use borrow.Author.Needs.{needs}
 use borrow.Author.Tests.{not-true, not-false}
-use Rattle.lines.specs.Laws.Pairs.{length-decode}
+use Rattle.lines.specs.Theorems.Pairs.{length-decode}
 use Rattle.lines.specs.Lines.{isLine}
 use Rattle.lines.proofs.form.is_line.Statement.{statement}
 use Rattle.lines.proofs.form.is_line.Tie as tie

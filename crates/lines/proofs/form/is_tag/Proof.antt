@@ -8,7 +8,7 @@ use lib.ListN.{length, drop}
 use borrow.Author.Needs.{needs}
 use borrow.Author.Tests.{le-leb, lt-leb}
 use Rattle.lines.specs.Hex.{between, decode}
-use Rattle.lines.specs.Laws.Pairs.{length-decode}
+use Rattle.lines.specs.Theorems.Pairs.{length-decode}
 use Rattle.lines.specs.Nodes.{allOf, isTag}
 use Rattle.lines.proofs.Forms.{all-pair, all-end}
 use Rattle.lines.proofs.form.is_tag.Statement.{statement}

@@ -9,9 +9,9 @@ use borrow.Author.Needs.{needs}
 use borrow.Author.Tests.{not-true, not-false}
 use Rattle.lines.specs.Entries.{textForm, operandForm}
 use Rattle.lines.specs.Hex.{decode}
-use Rattle.lines.specs.Laws.Lists.{take-rest}
-use Rattle.lines.specs.Laws.Pairs.{length-decode, drop-decode}
-use Rattle.lines.specs.Laws.Widths.{text-some}
+use Rattle.lines.specs.Theorems.Lists.{take-rest}
+use Rattle.lines.specs.Theorems.Pairs.{length-decode, drop-decode}
+use Rattle.lines.specs.Theorems.Widths.{text-some}
 use Rattle.lines.proofs.form.operand_form.Statement.{statement}
 use Rattle.lines.proofs.form.operand_form.Tie as tie
 

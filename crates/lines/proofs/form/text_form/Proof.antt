@@ -6,7 +6,7 @@ use borrow.Author.Needs.{needs}
 use borrow.Author.Tests.{le-leb, lt-leb}
 use Rattle.lines.specs.Entries.{textForm}
 use Rattle.lines.specs.Hex.{decode}
-use Rattle.lines.specs.Laws.Pairs.{length-decode, getD-decode}
+use Rattle.lines.specs.Theorems.Pairs.{length-decode, getD-decode}
 use Rattle.lines.proofs.form.text_form.Statement.{statement}
 use Rattle.lines.proofs.form.text_form.Tie as tie
 

@@ -8,8 +8,8 @@ use lib.ListN.{length, take, drop, length-set}
 use borrow.Author.Needs.{needs}
 use borrow.Author.Tests.{not-true, not-false}
 use Rattle.lines.specs.Files.{formOf, limitOf, scanFrom, scan, taken, Scanned}
-use Rattle.lines.specs.Laws.Cutting.{cut-none, end-within, end-beyond, line-long, cut-at}
-use Rattle.lines.specs.Laws.Widths.{form-width, limit-small, width-small, scan-few}
+use Rattle.lines.specs.Theorems.Cutting.{cut-none, end-within, end-beyond, line-long, cut-at}
+use Rattle.lines.specs.Theorems.Widths.{form-width, limit-small, width-small, scan-few}
 use Rattle.lines.specs.Lines.{lineLength, cut, startsFrom, starts}
 use Rattle.lines.proofs.Scans.{scan-full, scan-wrong, scan-more, scan-end, drop-next, note-more}
 use Rattle.lines.specs.declared.scan.File.{File}

@@ -3,7 +3,7 @@ use mathlib.Core.Path.{sym}
 use lib.ListN.{List·getD-eq-default}
 use borrow.Author.Needs.{needs}
 use Rattle.lines.specs.Entries.{rows, rowOf}
-use Rattle.lines.specs.Laws.Lists.{getD-any}
+use Rattle.lines.specs.Theorems.Lists.{getD-any}
 use Rattle.lines.proofs.table.row_of.Statement.{statement}
 use Rattle.lines.proofs.table.row_of.Tie as tie
 

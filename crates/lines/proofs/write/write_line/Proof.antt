@@ -5,7 +5,7 @@ use Prim.Native.Nat.{_^_, _+_, _*_, _/_, _%_, _≤_, _<_}
 use native.Mathlib.Omega.{arith}
 use lib.ListN.{length, length-set}
 use borrow.Author.Needs.{needs}
-use Rattle.lines.specs.Laws.RoundTrip.{length-line}
+use Rattle.lines.specs.Theorems.RoundTrip.{length-line}
 use Rattle.lines.specs.Texts.{textAt}
 use Rattle.lines.specs.Writing.{bytesOf, headed}
 use Rattle.lines.proofs.Writes.{put-more, put-end}

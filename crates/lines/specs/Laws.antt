@@ -1,9 +1,0 @@
-pub mod Bools
-pub mod Lists
-pub mod Pairs
-pub mod Cutting
-pub mod TableRule
-pub mod Reading
-pub mod Widths
-pub mod LongFiles
-pub mod RoundTrip

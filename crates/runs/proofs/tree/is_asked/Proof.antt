@@ -1,0 +1,52 @@
+-- The class decides.
+use mathlib.Core.Path.{_≡_, refl}
+use mathlib.Core.Bool.{Bool, true, false, not}
+use borrow.Author.Needs.{needs}
+use Rattle.lines.specs.declared.table.Class.the-variants.{Transformation, Test, Unknown}
+use Rattle.runs.specs.Theorems.ByTable.{stands}
+use Rattle.runs.proofs.tree.is_asked.Statement.{statement}
+use Rattle.runs.proofs.tree.is_asked.Tie as tie
+
+told-not : (t : Bool) → not t ≡ stands t Transformation
+unfolding stands
+told-not true = refl
+told-not false = refl
+
+told : (t : Bool) → t ≡ stands t Test
+unfolding stands
+told true = refl
+told false = refl
+
+told-none : (t : Bool) → false ≡ stands t Unknown
+unfolding stands
+told-none true = refl
+told-none false = refl
+
+class-of-requires : tie.Need-class-of-requires
+class-of-requires c κs = search needs
+
+enum-told : tie.Need-enum-told
+enum-told c = search needs
+
+enum-told-2 : tie.Need-enum-told-2
+enum-told-2 c = search needs
+
+enum-told-3 : tie.Need-enum-told-3
+enum-told-3 c = search needs
+
+returns : tie.Need-returns
+unfolding stands
+returns c = rw (← (c .before .before .class-of .ensures), c .enum-told .given .1) (told-not (c .before .before .before .args .test))
+
+returns-2 : tie.Need-returns-2
+unfolding stands
+returns-2 c = rw (← (c .before .before .class-of .ensures), c .enum-told2 .given .1) (told (c .before .before .before .args .test))
+
+returns-3 : tie.Need-returns-3
+unfolding stands
+returns-3 c = rw (← (c .before .before .class-of .ensures), c .enum-told3 .given .1) (told-none (c .before .before .before .args .test))
+
+pub is-asked-spec : {M : Type 1} → statement M
+is-asked-spec =
+    tie.close
+    (tie.spec class-of-requires enum-told enum-told-2 enum-told-3 returns returns-2 returns-3)

@@ -1,0 +1,11 @@
+pub mod Results
+pub mod Programs
+pub mod Reading
+pub mod Showing
+pub mod PuttingBack
+pub mod Grounds
+pub mod Theorems
+pub mod Runs
+pub mod Lookups
+pub mod SlotWords
+pub mod Checking

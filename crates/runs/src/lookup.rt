@@ -1,0 +1,115 @@
+// A node's kind and text, reached by its word: from the master's line of its number, or from the program's entry that makes it.
+use lines::fields::entry_text;
+use lines::fields::kind_at;
+use lines::fields::node_text;
+use lines::fields::operation_at;
+use lines::form::is_element;
+use lines::table::Shape;
+use lines::table::row_of;
+use lines::texts::same_text;
+use lines::texts::texts_agree;
+ghost use mathlib.Core.Path.{_≡_};
+ghost use mathlib.Core.List.{List, map};
+ghost use Prim.Native.Nat.{ℕ};
+ghost use Rattle.lines.specs.Texts.{textAt, sameText};
+ghost use Rattle.lines.specs.Texts.{agree as agreeing};
+ghost use Rattle.lines.specs.Nodes.{nodeAt};
+ghost use Rattle.lines.specs.Entries.{entryAt};
+ghost use Rattle.values.specs.Values.{elementOf, bytesOf};
+ghost use Rattle.values.specs.Words.{nodeOf};
+ghost use Rattle.runs.specs.Runs.{madeBy, lookupOf};
+ghost use Rattle.runs.specs.Lookups.{textIn};
+
+// The low half of a word: from this on an entry of the program.
+const PROGRAM: u32 = 0x8000;
+
+const LEVEL: u32 = 0x10000;
+
+// The file and the place of a text; or there is none, and it counts as empty.
+pub enum Text {
+    Master(u32),
+    Program(u32),
+    Missing,
+}
+
+pub fn is_element_word(
+    prog: &[u8],
+    entries: &[u16],
+    master: &[u8],
+    nodes: &[u16],
+    word: u32,
+) -> bool
+    ensures { λ r. ⌜ r ≡ elementOf (lookupOf (map (nodeAt (now (master .entry))) (now (nodes .entry)))) (nodeOf (madeBy (map (entryAt (now (prog .entry))) (now (entries .entry)))) word .origin) ⌝ }
+{
+    let origin = word % LEVEL;
+    if origin < PROGRAM {
+        let n = origin as usize;
+        if nodes.len() <= n {
+            return false;
+        }
+        return is_element(kind_at(master, nodes[n]));
+    }
+    let e = (origin - PROGRAM) as usize;
+    if entries.len() <= e {
+        return false;
+    }
+    operation_at(prog, entries[e]) == 0x04
+}
+
+pub fn text_of_word(prog: &[u8], entries: &[u16], nodes: &[u16], word: u32) -> Text
+    ensures { λ r. ⌜ ((master : List ℕ) → textIn (now (prog .entry)) master r ≡ bytesOf (lookupOf (map (nodeAt master) (now (nodes .entry)))) (nodeOf (madeBy (map (entryAt (now (prog .entry))) (now (entries .entry)))) word .origin)) ⌝ }
+{
+    let origin = word % LEVEL;
+    if origin < PROGRAM {
+        let n = origin as usize;
+        if nodes.len() <= n {
+            return Text::Missing;
+        }
+        return Text::Master(node_text(nodes[n]));
+    }
+    let e = (origin - PROGRAM) as usize;
+    if entries.len() <= e {
+        return Text::Missing;
+    }
+    let row = row_of(operation_at(prog, entries[e]));
+    let shape = row.0;
+    match shape {
+        Shape::Text => Text::Program(entry_text(entries[e])),
+        Shape::Tag => Text::Program(entry_text(entries[e])),
+        Shape::Nothing => Text::Missing,
+        Shape::Slot => Text::Missing,
+        Shape::Missing => Text::Missing,
+    }
+}
+
+fn agrees_with(source: &[u8], at: u32, prog: &[u8], master: &[u8], other: Text) -> bool
+    ensures { λ r. ⌜ r ≡ agreeing (textAt (now (source .entry)) «at») (textIn (now (prog .entry)) (now (master .entry)) other) ⌝ }
+{
+    match other {
+        Text::Master(p) => texts_agree(source, at, master, p),
+        Text::Program(p) => texts_agree(source, at, prog, p),
+        Text::Missing => texts_agree(source, at, &prog[0..0], 0),
+    }
+}
+
+// What test 11 asks of two nodes' texts.
+pub fn agree(prog: &[u8], master: &[u8], source: Text, other: Text) -> bool
+    ensures { λ r. ⌜ r ≡ agreeing (textIn (now (prog .entry)) (now (master .entry)) source) (textIn (now (prog .entry)) (now (master .entry)) other) ⌝ }
+{
+    match source {
+        Text::Master(p) => agrees_with(master, p, prog, master, other),
+        Text::Program(p) => agrees_with(prog, p, prog, master, other),
+        Text::Missing => agrees_with(&prog[0..0], 0, prog, master, other),
+    }
+}
+
+// Whether a node's tag is the one at `at` of the program.
+pub fn has_tag(prog: &[u8], master: &[u8], node: Text, at: u32) -> bool
+    ensures { λ r. ⌜ r ≡ sameText (textIn (now (prog .entry)) (now (master .entry)) node) (textAt (now (prog .entry)) «at») ⌝ }
+{
+    match node {
+        Text::Master(p) => same_text(master, p, prog, at),
+        Text::Program(p) => same_text(prog, p, prog, at),
+        Text::Missing => same_text(&prog[0..0], 0, prog, at),
+    }
+}

@@ -1,0 +1,56 @@
+// The slots bound on the way down: each has its byte and the extent of its value.
+ghost use mathlib.Core.Path.{_≡_};
+ghost use Prim.Native.Nat.{_<_, _≤_};
+ghost use lib.ListN.{length};
+ghost use Rattle.runs.specs.SlotWords.{noSlots, oneMore, innermost};
+
+pub struct Slots {
+    pub bytes: [u8; 4],
+    pub starts: [usize; 4],
+    pub lens: [usize; 4],
+    pub count: usize,
+}
+
+// No slot.
+pub fn no_slots() -> Slots
+    ensures { λ r. ⌜ r ≡ noSlots ⌝ }
+{
+    Slots {
+        bytes: [0u8; 4],
+        starts: [0usize; 4],
+        lens: [0usize; 4],
+        count: 0,
+    }
+}
+
+// One slot more, the innermost.
+pub fn bound(slots: Slots, byte: u8, start: usize, len: usize) -> Slots
+    requires { ⌜ (length (slots .bytes) ≡ 4) × (length (slots .starts) ≡ 4) × (length (slots .lens) ≡ 4) ⌝ }
+    requires { ⌜ slots .count < 4 ⌝ }
+    ensures { λ r. ⌜ r ≡ oneMore slots byte start len ⌝ }
+{
+    let mut inner = slots;
+    let k = slots.count;
+    inner.bytes[k] = byte;
+    inner.starts[k] = start;
+    inner.lens[k] = len;
+    inner.count = k + 1;
+    inner
+}
+
+// The innermost slot of this byte, by its place from the outermost; the number of slots where there is none.
+pub fn find(slots: Slots, byte: u8) -> usize
+    requires { ⌜ (length (slots .bytes) ≡ 4) × (slots .count ≤ 4) ⌝ }
+    ensures { λ r. ⌜ r ≡ innermost (slots .bytes) (slots .count) byte (slots .count) ⌝ }
+{
+    let bytes = slots.bytes;
+    let count = slots.count;
+    let mut k = count;
+    while 0 < k {
+        k -= 1;
+        if bytes[k] == byte {
+            return k;
+        }
+    }
+    count
+}

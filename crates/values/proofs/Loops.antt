@@ -1,0 +1,128 @@
+-- Steps of the loops over an extent.
+use mathlib.Core.Path.{_≡_, refl, sym, _∙_, ap}
+use mathlib.Core.Bool.{Bool, true, false, cond, _&&_, not}
+use mathlib.Core.List.{List, [], _∷_, map}
+use mathlib.Core.Logic.{_⊎_, inl, inr}
+use Prim.Native.Nat.{ℕ, zero, suc, _+_, _-_, _/_, _≤_, _<_}
+use native.Mathlib.Nat.{not-suc-le-zero, le-of-suc-le-suc}
+use native.Mathlib.Numerals.{add-one}
+use native.Mathlib.Omega.{arith}
+use borrow.Author.Tests.{lt-ltb, le-ltb, lt-leb, le-leb}
+use lib.ListN.{length, getD, take, drop, length-map, List·getD-map}
+use Rattle.lines.specs.Writing.{putAt}
+use Rattle.values.specs.Values.{Value, isTop, noTop, under, shallow}
+use Rattle.values.specs.Words.{Made, part, nodeOf, valueAt, mergedWord, mergedWords}
+use Rattle.values.specs.Theorems.Extents.{length-part, getD-part, put-none, put-more, put-reads}
+use Rattle.values.specs.Theorems.WordLaws.{value-cons, value-none, top-word}
+
+-- where the loop stands: i of the new words are put
+pub record Putting (w₀ : List ℕ) (to : ℕ) (new : List ℕ) (len : ℕ) (w : List ℕ) (i : ℕ) : Type 0 where
+  pub most : i ≤ len
+  pub long : length w ≡ length w₀
+  pub so-far : w ≡ putAt w₀ to (take i new)
+
+-- the new words, one for each of len; they fit
+module _ (w₀ : List ℕ) (to : ℕ) (new : List ℕ) (len : ℕ) (all : length new ≡ len) (fits : to + len ≤ length w₀) where
+  pub putting-starts : Putting w₀ to new len w₀ 0
+  putting-starts = record { most = omega arith; long = refl; so-far = put-none w₀ to }
+
+  pub putting-goes-on : {w : List ℕ} {i x : ℕ} → Putting w₀ to new len w i → i < len → x ≡ getD new i 0 → Putting w₀ to new len (lib.ListN.set w (to + i) x) (i + 1)
+  putting-goes-on {w} {i} {x} p h e =
+      record { most = omega arith; long = lib.ListN.length-set w (to + i) x ∙ p .long; so-far = put-more w₀ to new i (omega arith) (omega arith) (p .so-far) e }
+
+  pub putting-ends : {w : List ℕ} {i : ℕ} → Putting w₀ to new len w i → len ≤ i → w ≡ putAt w₀ to new
+  putting-ends {w} {i} p h = p .so-far ∙ ap (putAt w₀ to) (lib.Seq.take-all i new (omega arith))
+
+  -- a word that is still to be read is as it was
+  pub putting-reads : {w : List ℕ} {i : ℕ} → Putting w₀ to new len w i → (k : ℕ) → (k < to) ⊎ (to + i ≤ k) → getD w k 0 ≡ getD w₀ k 0
+  putting-reads {w} {i} p k side =
+      let m = p .most in
+      ap (λ (l : List ℕ). getD l k 0) (p .so-far) ∙ put-reads w₀ to new i (omega arith) (omega arith) k side
+
+-- a source before the place or behind it, while its word i is read
+pub apart : (from to len i : ℕ) → (to ≤ from) ⊎ (from + len ≤ to) → i < len → (from + i < to) ⊎ (to + i ≤ from + i)
+apart from to len i (inl h) l = inr (omega arith)
+apart from to len i (inr h) l = inl (omega arith)
+
+-- ## The new words, one by one
+
+pub mapped-long : (f : ℕ → ℕ) (w : List ℕ) (from len : ℕ) → from + len ≤ length w → length (map f (part w from len)) ≡ len
+mapped-long f w from len h = length-map (part w from len) f ∙ length-part w from len h
+
+pub mapped-at : (f : ℕ → ℕ) (w : List ℕ) (from len i : ℕ) → i < len → from + len ≤ length w → getD (map f (part w from len)) i 0 ≡ f (getD w (from + i) 0)
+mapped-at f w from len i h fits =
+    Rattle.lines.specs.Theorems.Lists.getD-any (map f (part w from len)) i 0 (f 0) (omega (arith, mapped-long f w from len fits))
+    ∙ (List·getD-map f (part w from len) i 0 ∙ ap f (getD-part w from len i h))
+
+pub merged-long : (k l : List ℕ) → length k ≡ length l → length (mergedWords k l) ≡ length k
+unfolding mergedWords
+merged-long [] l e = refl
+merged-long (a ∷ k) [] e = absurd (omega arith)
+merged-long (a ∷ k) (b ∷ l) e = ap suc (merged-long k l (omega arith))
+
+merged-getD : (k l : List ℕ) (i : ℕ) → i < length k → i < length l → getD (mergedWords k l) i 0 ≡ mergedWord (getD k i 0) (getD l i 0)
+unfolding mergedWords
+merged-getD [] l i h g = absurd (not-suc-le-zero h)
+merged-getD (a ∷ k) [] i h g = absurd (not-suc-le-zero g)
+merged-getD (a ∷ k) (b ∷ l) zero h g = refl
+merged-getD (a ∷ k) (b ∷ l) (suc i) h g = merged-getD k l i (le-of-suc-le-suc h) (le-of-suc-le-suc g)
+
+pub merged-at : (v w : List ℕ) (to from len i : ℕ) → i < len → to + len ≤ length v → from + len ≤ length w
+    → getD (mergedWords (part v to len) (part w from len)) i 0 ≡ mergedWord (getD v (to + i) 0) (getD w (from + i) 0)
+merged-at v w to from len i h p q =
+    merged-getD (part v to len) (part w from len) i (omega (arith, length-part v to len p)) (omega (arith, length-part w from len q))
+    ∙ (rw (getD-part v to len i h, getD-part w from len i h))
+
+-- ## Reading an extent from place i on
+
+module _ (made : Made) (w : List ℕ) (start len i : ℕ) (fits : start + len ≤ length w) where
+  pub rest-none : len ≤ i → valueAt made w (start + i) (len - i) ≡ []
+  rest-none h = ap (valueAt made w (start + i)) (let z : len - i ≡ 0 = omega arith in z) ∙ value-none made w (start + i)
+
+  pub rest-cons : i < len → valueAt made w (start + i) (len - i) ≡ nodeOf made (getD w (start + i) 0) ∷ valueAt made w (start + (i + 1)) (len - (i + 1))
+  rest-cons h =
+      ap (valueAt made w (start + i)) (let z : len - i ≡ (len - (i + 1)) + 1 = omega arith in z)
+      ∙ (value-cons made w (start + i) (len - (i + 1)) (omega arith) ∙ ap (λ (k : ℕ). nodeOf made (getD w (start + i) 0) ∷ valueAt made w k (len - (i + 1))) (let z : start + i + 1 ≡ start + (i + 1) = omega arith in z))
+
+-- a top node, any other node, and nothing
+module _ (made : Made) (x : ℕ) (v : Value) where
+  pub tops-here : x < 0x10000 → noTop (nodeOf made x ∷ v) ≡ false
+  unfolding noTop
+  tops-here h = rw (top-word made x, lt-ltb x 0x10000 h)
+
+  pub tops-later : 0x10000 ≤ x → noTop (nodeOf made x ∷ v) ≡ noTop v
+  unfolding noTop
+  tops-later h = rw (top-word made x, le-ltb x 0x10000 h)
+
+  pub under-here : x < 0x10000 → length (under (nodeOf made x ∷ v)) ≡ 0
+  unfolding under
+  under-here h = rw (top-word made x, lt-ltb x 0x10000 h)
+
+  pub under-later : 0x10000 ≤ x → length (under (nodeOf made x ∷ v)) ≡ 1 + length (under v)
+  unfolding under
+  under-later h = rw (top-word made x, le-ltb x 0x10000 h) (omega arith)
+
+  pub deep-here : 9 < x / 0x10000 → shallow (nodeOf made x ∷ v) ≡ false
+  unfolding shallow nodeOf
+  deep-here h = rw (lt-leb (x / 0x10000) 9 h)
+
+  pub deep-later : x / 0x10000 ≤ 9 → shallow (nodeOf made x ∷ v) ≡ shallow v
+  unfolding shallow nodeOf
+  deep-later h = rw (le-leb (x / 0x10000) 9 h)
+
+pub tops-none : noTop [] ≡ true
+unfolding noTop
+tops-none = refl
+
+pub under-none : length (under []) ≡ 0
+unfolding under
+under-none = refl
+
+pub deep-none : shallow [] ≡ true
+unfolding shallow
+deep-none = refl
+
+-- two extents apart, while word i of each is read
+pub beside : (from to len i : ℕ) → (to + len ≤ from) ⊎ (from + len ≤ to) → i < len → (from + i < to) ⊎ (to + i ≤ from + i)
+beside from to len i (inl h) l = inr (omega arith)
+beside from to len i (inr h) l = inl (omega arith)

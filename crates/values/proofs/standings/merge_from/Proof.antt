@@ -1,0 +1,91 @@
+-- Each two words merged.
+use mathlib.Core.Path.{sym, _∙_, ap}
+use mathlib.Core.Logic.{inr}
+use Prim.Native.Nat.{ℕ, _+_, _-_}
+use native.Mathlib.Omega.{arith}
+use lib.ListN.{getD}
+use borrow.Author.Needs.{needs}
+use Rattle.values.specs.Theorems.Extents.{length-part}
+use Rattle.values.specs.Words.{part, mergedWord, mergedWords}
+use Rattle.values.proofs.Loops.{Putting, putting-starts, putting-goes-on, putting-ends, putting-reads, merged-long, merged-at}
+use Rattle.values.proofs.standings.merge_from.Statement.{statement}
+use Rattle.values.proofs.standings.merge_from.Tie as tie
+
+abbrev Inv-loop : tie.InvT-loop
+Inv-loop work₀ to other from len i₀ work i = Putting work₀ to (mergedWords (part work₀ to len) (part other from len)) len work i
+
+abbrev μ-loop : tie.MeasureT-loop
+μ-loop work₀ to other from len i₀ work i = len - i
+
+loop-holds : tie.Need-loop-holds Inv-loop μ-loop
+loop-holds c = let a = c .before .before .args in putting-starts (a .work .now) (a .to) _ (a .len) (merged-long (part (a .work .now) (a .to) (a .len)) (part (a .other .now) (a .from) (a .len)) (length-part (a .work .now) (a .to) (a .len) (omega arith) ∙ sym (length-part (a .other .now) (a .from) (a .len) (omega arith))) ∙ length-part (a .work .now) (a .to) (a .len) (omega arith)) (omega arith)
+
+add-merge-word : tie.Need-add-merge-word Inv-loop μ-loop
+add-merge-word c = omega (arith, c .before .loop .inv .most, c .before .loop .inv .long)
+
+mul-merge-word : tie.Need-mul-merge-word Inv-loop μ-loop
+mul-merge-word c = omega (arith, c .before .loop .inv .most, c .before .loop .inv .long)
+
+slice-read-merge-word : tie.Need-slice-read-merge-word Inv-loop μ-loop
+slice-read-merge-word c = omega (arith, c .before .before .loop .inv .most, c .before .before .loop .inv .long)
+
+add-merge-word-2 : tie.Need-add-merge-word-2 Inv-loop μ-loop
+add-merge-word-2 c = omega (arith, c .before .before .loop .inv .most, c .before .before .loop .inv .long)
+
+mul-merge-word-2 : tie.Need-mul-merge-word-2 Inv-loop μ-loop
+mul-merge-word-2 c = omega (arith, c .before .before .loop .inv .most, c .before .before .loop .inv .long)
+
+shared-slice-read-merge-word : tie.Need-shared-slice-read-merge-word Inv-loop μ-loop
+shared-slice-read-merge-word c = omega (arith, c .before .before .before .loop .inv .most, c .before .before .before .loop .inv .long)
+
+merge-word-requires : tie.Need-merge-word-requires Inv-loop μ-loop
+merge-word-requires c κs = search needs
+
+add-work : tie.Need-add-work Inv-loop μ-loop
+add-work c = omega (arith, c .before .before .before .before .loop .inv .most, c .before .before .before .before .loop .inv .long)
+
+mul-work : tie.Need-mul-work Inv-loop μ-loop
+mul-work c = omega (arith, c .before .before .before .before .loop .inv .most, c .before .before .before .before .loop .inv .long)
+
+slice-write-work : tie.Need-slice-write-work Inv-loop μ-loop
+slice-write-work c = omega (arith, c .before .before .before .before .loop .inv .most, c .before .before .before .before .loop .inv .long)
+
+add-i : tie.Need-add-i Inv-loop μ-loop
+add-i c = omega (arith, c .before .before .before .before .loop .inv .most, c .before .before .before .before .loop .inv .long)
+
+loop-less : tie.Need-loop-less Inv-loop μ-loop
+loop-less c = omega (arith, c .before .before .before .before .loop .inv .most, c .before .before .before .before .loop .inv .long)
+
+loop-again : tie.Need-loop-again Inv-loop μ-loop
+loop-again c =
+    let a = c .before .before .before .before .before .before .before .args in
+    putting-goes-on (a .work .now) (a .to) _ (a .len) (merged-long (part (a .work .now) (a .to) (a .len)) (part (a .other .now) (a .from) (a .len)) (length-part (a .work .now) (a .to) (a .len) (omega arith) ∙ sym (length-part (a .other .now) (a .from) (a .len) (omega arith))) ∙ length-part (a .work .now) (a .to) (a .len) (omega arith)) (omega arith) (c .before .before .before .before .loop .inv) (c .before .before .before .loop-test .taken) (c .merge-word .ensures ∙ (ap (λ (x : ℕ). mergedWord x (getD (a .other .now) (a .from + c .before .before .before .before .loop .i) 0)) (putting-reads (a .work .now) (a .to) _ (a .len) (merged-long (part (a .work .now) (a .to) (a .len)) (part (a .other .now) (a .from) (a .len)) (length-part (a .work .now) (a .to) (a .len) (omega arith) ∙ sym (length-part (a .other .now) (a .from) (a .len) (omega arith))) ∙ length-part (a .work .now) (a .to) (a .len) (omega arith)) (omega arith) (c .before .before .before .before .loop .inv) (a .to + c .before .before .before .before .loop .i) (inr (omega arith))) ∙ sym (merged-at (a .work .now) (a .other .now) (a .to) (a .from) (a .len) (c .before .before .before .before .loop .i) (c .before .before .before .loop-test .taken) (omega arith) (omega arith))))
+
+same-length : tie.Need-same-length Inv-loop μ-loop
+same-length c = c .before .loop .inv .long
+
+returns : tie.Need-returns Inv-loop μ-loop
+returns c = let a = c .before .before .before .before .args in putting-ends (a .work .now) (a .to) _ (a .len) (merged-long (part (a .work .now) (a .to) (a .len)) (part (a .other .now) (a .from) (a .len)) (length-part (a .work .now) (a .to) (a .len) (omega arith) ∙ sym (length-part (a .other .now) (a .from) (a .len) (omega arith))) ∙ length-part (a .work .now) (a .to) (a .len) (omega arith)) (omega arith) (c .before .loop .inv) (c .loop-test .left)
+
+pub merge-from-spec : {M : Type 1} → statement M
+merge-from-spec =
+    tie.close
+    (tie.spec
+    Inv-loop
+    μ-loop
+    loop-holds
+    add-merge-word
+    mul-merge-word
+    slice-read-merge-word
+    add-merge-word-2
+    mul-merge-word-2
+    shared-slice-read-merge-word
+    merge-word-requires
+    add-work
+    mul-work
+    slice-write-work
+    add-i
+    loop-less
+    loop-again
+    same-length
+    returns)

@@ -1,0 +1,4 @@
+pub mod Values
+pub mod Standings
+pub mod Words
+pub mod Theorems
