@@ -1,14 +1,14 @@
 -- A node's kind and text, and an entry's operand, where the code reads them.
-use mathlib.Core.Path.{_≡_, refl, sym, _∙_, ap}
+use mathlib.Core.Path.{_≡_, sym, _∙_, ap}
 use mathlib.Core.Bool.{false}
-use mathlib.Core.List.{List, [], _∷_, map}
-use Prim.Native.Nat.{ℕ, zero, suc, _+_, _-_, _%_, _≤_, _<_}
+use mathlib.Core.List.{List, [], map}
+use Prim.Native.Nat.{ℕ, _+_, _-_, _%_, _≤_, _<_}
 use native.Mathlib.Omega.{arith}
 use lib.Dec.{eqb}
-use lib.ListN.{length, getD, length-map, List·getD-eq-default, List·getD-map}
+use lib.ListN.{length, getD, drop, length-map, List·getD-eq-default, List·getD-map}
 use borrow.Author.Tests.{lt-ltb, le-ltb}
 use Rattle.lines.specs.declared.table.Shape.{Shape}
-use Rattle.lines.specs.declared.table.Shape.the-variants.{Nothing, Text, Tag, Slot, Missing}
+use Rattle.lines.specs.declared.table.Shape.the-variants.{Slot}
 use Rattle.lines.specs.declared.table.Row.{Row}
 use Rattle.lines.specs.Theorems.Lists.{getD-any}
 use Rattle.lines.specs.Hex.{pairAt}
@@ -32,46 +32,46 @@ no-line-at f starts i d h = let l : length (map f starts) ≤ i = omega (arith, 
 
 -- ## Operands
 
--- by the operand's shape
+-- what an operation's shape makes of the bytes behind it
 module _ (s : List ℕ) (p : ℕ) where
-  abbrev shape : Shape
-  shape = rowOf (entryAt s p .operation) .0
-
-  pub shape-is : (row : Row) (operation : ℕ) {z : Shape} → row ≡ rowOf operation → operation ≡ entryAt s p .operation → row .0 ≡ z → shape ≡ z
+  pub shape-is : (row : Row) (operation : ℕ) {z : Shape} → row ≡ rowOf operation → operation ≡ entryAt s p .operation → row .0 ≡ z → rowOf (entryAt s p .operation) .0 ≡ z
   shape-is row operation r o e = ap (λ (b : ℕ). rowOf b .0) (sym o) ∙ sym (ap (λ (x : Row). x .0) r) ∙ e
 
-  pub with-text : shape ≡ Text → textOf (entryAt s p) ≡ textAt s (p + 2)
-  unfolding entryAt textOf operandAt
-  with-text e = rw e
+  operand-of : {z : Shape} → rowOf (entryAt s p .operation) .0 ≡ z → entryAt s p .operand ≡ operandAt z s (p + 2)
+  unfolding entryAt
+  operand-of e = ap (λ (z : Shape). operandAt z s (p + 2)) e
 
-  pub with-tag : shape ≡ Tag → textOf (entryAt s p) ≡ textAt s (p + 2)
-  unfolding entryAt textOf operandAt
-  with-tag e = rw e
+  pub operand-text : {z : Shape} → rowOf (entryAt s p .operation) .0 ≡ z → textOf (entryAt s p) ≡ drop 1 (operandAt z s (p + 2))
+  unfolding textOf
+  operand-text e = ap (drop 1) (operand-of e)
 
-  pub with-nothing : shape ≡ Nothing → textOf (entryAt s p) ≡ []
-  unfolding entryAt textOf operandAt
-  with-nothing e = rw e
+  slot-of : rowOf (entryAt s p .operation) .0 ≡ Slot → slotOf (entryAt s p) ≡ pairAt s (p + 2)
+  unfolding slotOf operandAt
+  slot-of e = ap (λ (l : List ℕ). getD l 0 0) (operand-of e)
 
-  pub with-slot : shape ≡ Slot → textOf (entryAt s p) ≡ []
-  unfolding entryAt textOf operandAt
-  with-slot e = rw e
+-- an entry of the program
+module _ (prog starts : List ℕ) (p : ℕ) (h : p < length starts) where
+  entry-of : getD (map (entryAt prog) starts) p noEntry ≡ entryAt prog (getD starts p 0)
+  entry-of = line-at (entryAt prog) starts p noEntry h
 
-  pub with-none : shape ≡ Missing → textOf (entryAt s p) ≡ []
-  unfolding entryAt textOf operandAt
-  with-none e = rw e
+  pub operation-of : (r : ℕ) {b : ℕ} → r ≡ entryAt prog (getD starts p 0) .operation → r ≡ b → (getD (map (entryAt prog) starts) p noEntry) .operation ≡ b
+  operation-of r e q = ap (λ (x : Entry). x .operation) entry-of ∙ sym e ∙ q
+
+  row-of : (b : ℕ) → (getD (map (entryAt prog) starts) p noEntry) .operation ≡ b → rowOf (entryAt prog (getD starts p 0) .operation) .0 ≡ rowOf b .0
+  row-of b o = ap (λ (k : ℕ). rowOf k .0) (sym (ap (λ (x : Entry). x .operation) entry-of) ∙ o)
 
   -- 05 and 0C have a slot byte, 12 a tag
-  pub slot-of : entryAt s p .operation ≡ 0x05 → slotOf (entryAt s p) ≡ pairAt s (p + 2)
-  unfolding entryAt slotOf operandAt rowOf rows
-  slot-of e = rw e
-
-  pub bind-of : entryAt s p .operation ≡ 0x0C → slotOf (entryAt s p) ≡ pairAt s (p + 2)
-  unfolding entryAt slotOf operandAt rowOf rows
-  bind-of e = rw e
-
-  pub tag-of : entryAt s p .operation ≡ 0x12 → textOf (entryAt s p) ≡ textAt s (p + 2)
+  pub slot-byte : (r : ℕ) → r ≡ pairAt prog (getD starts p 0 + 2) → (getD (map (entryAt prog) starts) p noEntry) .operation ≡ 0x05 → r ≡ slotOf (getD (map (entryAt prog) starts) p noEntry)
   unfolding rowOf rows
-  tag-of e = with-tag (ap (λ (b : ℕ). rowOf b .0) e)
+  slot-byte r e o = e ∙ sym (ap slotOf entry-of ∙ slot-of prog (getD starts p 0) (row-of 0x05 o))
+
+  pub bind-byte : (r : ℕ) → r ≡ pairAt prog (getD starts p 0 + 2) → (getD (map (entryAt prog) starts) p noEntry) .operation ≡ 0x0C → r ≡ slotOf (getD (map (entryAt prog) starts) p noEntry)
+  unfolding rowOf rows
+  bind-byte r e o = e ∙ sym (ap slotOf entry-of ∙ slot-of prog (getD starts p 0) (row-of 0x0C o))
+
+  pub tag-bytes : (r : ℕ) → r ≡ getD starts p 0 + 2 → (getD (map (entryAt prog) starts) p noEntry) .operation ≡ 0x12 → textAt prog r ≡ textOf (getD (map (entryAt prog) starts) p noEntry)
+  unfolding rowOf rows operandAt
+  tag-bytes r e o = ap (textAt prog) e ∙ sym (ap textOf entry-of ∙ operand-text prog (getD starts p 0) (row-of 0x12 o))
 
 -- ## A node's kind and text
 

@@ -7,7 +7,7 @@ use native.Mathlib.Numerals.{add-one, sub-one}
 use native.Mathlib.Decide.{decLt}
 use native.Mathlib.Omega.{arith}
 use lib.Dec.{eqb, leb}
-use lib.ListN.{length, getD, take, set, length-set, length-replicate}
+use lib.ListN.{length, getD, take, set, length-set}
 use lib.Seq.{getD-set-same, getD-set-other}
 use borrow.Author.Tests.{leb-true, eq-eqb, ne-eqb}
 use Rattle.values.specs.Values.{Value, among}
@@ -15,7 +15,7 @@ use Rattle.values.specs.Words.{Made, valueAt}
 use Rattle.values.specs.Theorems.WordLaws.{value-frame}
 use Rattle.runs.specs.declared.slots.Slots.{Slots as SlotWords}
 use Rattle.runs.specs.Reading.{Room, wholeRoom, insideBind}
-use Rattle.runs.specs.Showing.{Binding, Slots, valueIn}
+use Rattle.runs.specs.Showing.{Slots, valueIn}
 use Rattle.runs.specs.Runs.{slotsTo, slotsAt, bytesTo, Bound, Inside}
 use Rattle.runs.specs.SlotWords.{noSlots, oneMore, innermost}
 use Rattle.runs.specs.Theorems.Combinators.{bound}

@@ -8,4 +8,5 @@ pub mod Theorems
 pub mod Runs
 pub mod Lookups
 pub mod SlotWords
+pub mod Leaves
 pub mod Checking

@@ -1,16 +1,17 @@
 -- What the code of a run stands on, what it asks and what it promises: files read by their lines, values and standings in the work slice.
 use Prim.Native.Nat.{ℕ, zero, suc, _+_, _*_, _≤_}
 use mathlib.Core.Path.{_≡_}
-use mathlib.Core.Bool.{Bool}
+use mathlib.Core.Bool.{Bool, cond}
 use mathlib.Core.List.{List, [], _∷_, map}
 use lib.Dec.{eqb}
 use lib.ListN.{length, getD, take}
 use Rattle.lines.specs.Entries.{Entry, textOf}
+use Rattle.lines.specs.Writing.{putAt}
 use Rattle.lines.specs.Nodes.{isElement}
 use Rattle.lines.specs.Nodes.{Node as Line}
 use Rattle.values.specs.Values.{Value, Lookup}
 use Rattle.values.specs.Standings.{Standing, fitted}
-use Rattle.values.specs.Words.{part, Made, valueAt, standingsAt, AllNamed}
+use Rattle.values.specs.Words.{part, Made, valueAt, standingsAt, AllNamed, mergedWords}
 use Rattle.runs.specs.declared.stop.Stop.{Stop}
 use Rattle.runs.specs.declared.stop.Run.{Run}
 use Rattle.runs.specs.declared.stop.Run.the-variants as ran
@@ -147,6 +148,14 @@ abbrev pub NamedTo : (ℕ → List ℕ) → List ℕ → SlotWords → ℕ → T
 NamedTo texts marks slots zero = Unit {0}
 NamedTo texts marks slots (suc k) = AllNamed texts (part marks (128 * k) (getD (slots .lens) k 0)) × NamedTo texts marks slots k
 
+-- the words of a view merged into those of slot k
+abbrev pub mergedAt : List ℕ → SlotWords → ℕ → List ℕ → ℕ → List ℕ
+mergedAt marks slots k w view = putAt marks (128 * k) (mergedWords (part marks (128 * k) (getD (slots .lens) k 0)) (part w view (getD (slots .lens) k 0)))
+
+-- where the branch of a 0B stands, by what its test at p says
+abbrev pub branchAt : List ℕ → ℕ → Bool → ℕ
+branchAt ends p b = cond b (getD ends p 0) (getD ends (getD ends p 0) 0)
+
 -- source and view lie below top, and each level has its room; the slots have theirs
 pub record PutSpace (w marks : List ℕ) (slots : SlotWords) (start len view vlen top levels : ℕ) : Type 0 where
   pub below : start + len ≤ top
@@ -168,6 +177,22 @@ module _ (entries : List Entry) (lines : List Line) where
     pub meets : (texts : ℕ → List ℕ) → AllNamed texts (part w view vlen) → NamedTo texts marks slots (slots .count)
         → (X : Transformation) (q : ℕ) → Stands entries X entry q
         → let b = putBack (lookupOf lines) X (slotsAt (madeBy entries) w slots) (valueAt (madeBy entries) w start len) (standingsAt texts w view vlen) (marksAt texts marks slots) in
+        (standingsAt texts w′ top len ≡ b .inSource)
+        × (marksAt texts marks′ slots ≡ b .inSlots)
+        × AllNamed texts (part w′ top len)
+        × NamedTo texts marks′ slots (slots .count)
+
+  -- the test of the source answers
+  pub record Asked (w : List ℕ) (slots : SlotWords) (entry start len : ℕ) : Type 0 where
+    pub answers : (P : Test) (q : ℕ) → StandsTest entries P entry q
+        → (b : Bool) × (yesOnly (test (lookupOf lines) P (slotsAt (madeBy entries) w slots) (valueAt (madeBy entries) w start len)) ≡ gives b)
+
+  -- the same of a test, over the standings at top that the branch handed back
+  pub record TestPutBy (w marks : List ℕ) (slots : SlotWords) (entry start len top : ℕ) (w′ marks′ : List ℕ) : Type 0 where
+    pub frame : take top w′ ≡ take top w
+    pub meets : (texts : ℕ → List ℕ) → AllNamed texts (part w top len) → NamedTo texts marks slots (slots .count)
+        → (P : Test) (q : ℕ) → StandsTest entries P entry q
+        → let b = putBackTest (lookupOf lines) P (slotsAt (madeBy entries) w slots) (valueAt (madeBy entries) w start len) (standingsAt texts w top len) (marksAt texts marks slots) in
         (standingsAt texts w′ top len ≡ b .inSource)
         × (marksAt texts marks′ slots ≡ b .inSlots)
         × AllNamed texts (part w′ top len)

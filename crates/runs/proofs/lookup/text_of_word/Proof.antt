@@ -3,8 +3,9 @@ use mathlib.Core.Path.{sym, _∙_, ap}
 use Prim.Native.Nat.{_-_, _%_}
 use lib.ListN.{getD}
 use borrow.Author.Needs.{needs}
+use Rattle.lines.specs.Entries.{operandAt}
 use Rattle.lines.specs.Texts.{textAt}
-use Rattle.runs.proofs.Lookups.{shape-is, with-text, with-tag, with-nothing, with-slot, with-none, text-line, text-no-line, text-entry, text-no-entry}
+use Rattle.runs.proofs.Lookups.{shape-is, operand-text, text-line, text-no-line, text-entry, text-no-entry}
 use Rattle.runs.proofs.lookup.text_of_word.Statement.{statement}
 use Rattle.runs.proofs.lookup.text_of_word.Tie as tie
 
@@ -78,38 +79,43 @@ enum-told-5 : tie.Need-enum-told-5
 enum-told-5 c = search needs
 
 returns-4 : tie.Need-returns-4
+unfolding operandAt
 returns-4 c =
     let a = c .before .before .before .before .before .before .before .before .before .before .before .before .args in let p = getD (a .entries .now) (a .word % 0x10000 - 0x8000) 0 in
     λ master.
-    ap (textAt (a .prog .now)) (c .entry-text .ensures) ∙ sym (with-text (a .prog .now) p (shape-is (a .prog .now) p _ _ (c .before .before .before .before .row-of .ensures) (c .before .before .before .before .before .operation-at .ensures) (c .before .before .enum-told .given .1)))
+    ap (textAt (a .prog .now)) (c .entry-text .ensures) ∙ sym (operand-text (a .prog .now) p (shape-is (a .prog .now) p _ _ (c .before .before .before .before .row-of .ensures) (c .before .before .before .before .before .operation-at .ensures) (c .before .before .enum-told .given .1)))
     ∙ text-entry (a .prog .now) (a .entries .now) master (a .nodes .now) (a .word) (c .before .before .before .before .before .before .before .before .if1 .left) (c .before .before .before .before .before .before .before .if3 .left)
 
 returns-5 : tie.Need-returns-5
+unfolding operandAt
 returns-5 c =
     let a = c .before .before .before .before .before .before .before .before .before .before .before .before .args in let p = getD (a .entries .now) (a .word % 0x10000 - 0x8000) 0 in
     λ master.
-    ap (textAt (a .prog .now)) (c .entry-text2 .ensures) ∙ sym (with-tag (a .prog .now) p (shape-is (a .prog .now) p _ _ (c .before .before .before .before .row-of .ensures) (c .before .before .before .before .before .operation-at .ensures) (c .before .before .enum-told2 .given .1)))
+    ap (textAt (a .prog .now)) (c .entry-text2 .ensures) ∙ sym (operand-text (a .prog .now) p (shape-is (a .prog .now) p _ _ (c .before .before .before .before .row-of .ensures) (c .before .before .before .before .before .operation-at .ensures) (c .before .before .enum-told2 .given .1)))
     ∙ text-entry (a .prog .now) (a .entries .now) master (a .nodes .now) (a .word) (c .before .before .before .before .before .before .before .before .if1 .left) (c .before .before .before .before .before .before .before .if3 .left)
 
 returns-6 : tie.Need-returns-6
+unfolding operandAt
 returns-6 c =
     let a = c .before .before .before .before .before .before .before .before .before .before .args in let p = getD (a .entries .now) (a .word % 0x10000 - 0x8000) 0 in
     λ master.
-    sym (with-nothing (a .prog .now) p (shape-is (a .prog .now) p _ _ (c .before .before .row-of .ensures) (c .before .before .before .operation-at .ensures) (c .enum-told3 .given .1)))
+    sym (operand-text (a .prog .now) p (shape-is (a .prog .now) p _ _ (c .before .before .row-of .ensures) (c .before .before .before .operation-at .ensures) (c .enum-told3 .given .1)))
     ∙ text-entry (a .prog .now) (a .entries .now) master (a .nodes .now) (a .word) (c .before .before .before .before .before .before .if1 .left) (c .before .before .before .before .before .if3 .left)
 
 returns-7 : tie.Need-returns-7
+unfolding operandAt
 returns-7 c =
     let a = c .before .before .before .before .before .before .before .before .before .before .args in let p = getD (a .entries .now) (a .word % 0x10000 - 0x8000) 0 in
     λ master.
-    sym (with-slot (a .prog .now) p (shape-is (a .prog .now) p _ _ (c .before .before .row-of .ensures) (c .before .before .before .operation-at .ensures) (c .enum-told4 .given .1)))
+    sym (operand-text (a .prog .now) p (shape-is (a .prog .now) p _ _ (c .before .before .row-of .ensures) (c .before .before .before .operation-at .ensures) (c .enum-told4 .given .1)))
     ∙ text-entry (a .prog .now) (a .entries .now) master (a .nodes .now) (a .word) (c .before .before .before .before .before .before .if1 .left) (c .before .before .before .before .before .if3 .left)
 
 returns-8 : tie.Need-returns-8
+unfolding operandAt
 returns-8 c =
     let a = c .before .before .before .before .before .before .before .before .before .before .args in let p = getD (a .entries .now) (a .word % 0x10000 - 0x8000) 0 in
     λ master.
-    sym (with-none (a .prog .now) p (shape-is (a .prog .now) p _ _ (c .before .before .row-of .ensures) (c .before .before .before .operation-at .ensures) (c .enum-told5 .given .1)))
+    sym (operand-text (a .prog .now) p (shape-is (a .prog .now) p _ _ (c .before .before .row-of .ensures) (c .before .before .before .operation-at .ensures) (c .enum-told5 .given .1)))
     ∙ text-entry (a .prog .now) (a .entries .now) master (a .nodes .now) (a .word) (c .before .before .before .before .before .before .if1 .left) (c .before .before .before .before .before .if3 .left)
 
 pub text-of-word-spec : {M : Type 1} → statement M
