@@ -42,7 +42,7 @@ pub record Kept (room : RoomLeft) : Type 0 where
   pub four : length (room .bytes) ≡ 4
   pub places : room .count + room .binds ≤ 4
 
--- `below` of Reading in two steps: may an entry of this operation and slot stand in the room, and what does it leave?
+-- `below` of Reading in two steps: whether an entry of this operation and slot may stand in the room, and what it leaves
 unfoldable pub mayStand : ℕ → ℕ → Room → Bool
 mayStand operation k room =
     cond (eqb operation 0x0A) (leb 1 (room .eaches))

@@ -84,7 +84,7 @@ gathered n (x ∷ v) ss = cond (isFrom n (x .origin)) (firstOf ss) untouched ⋓
 unfoldable pub brings : List ℕ → ℕ → List ℕ → Standing
 brings fresh mark bytes = cond (eqb mark changedMark) (changed bytes) (cond (eqb mark deletedMark) deleted untouched)
 
--- is that line edited?
+-- whether that line is edited
 unfoldable pub isEdit : List ℕ → ℕ → List ℕ → Bool
 isEdit fresh mark bytes = eqb mark changedMark || eqb mark deletedMark
 

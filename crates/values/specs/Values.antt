@@ -22,7 +22,7 @@ pub record Lookup : Type 0 where
   pub element : ℕ → Bool
   pub bytes : ℕ → List ℕ
 
--- is it an element?
+-- whether it is an element
 unfoldable pub elementOf : Lookup → Origin → Bool
 elementOf look (master n) = look .element n
 elementOf look (program entry element bytes) = element
@@ -32,7 +32,7 @@ unfoldable pub bytesOf : Lookup → Origin → List ℕ
 bytesOf look (master n) = look .bytes n
 bytesOf look (program entry element bytes) = bytes
 
--- does it come from the master's node n?
+-- whether it comes from the master's node n
 unfoldable pub isFrom : ℕ → Origin → Bool
 isFrom n (master m) = eqb n m
 isFrom n (program entry element bytes) = false
@@ -42,7 +42,7 @@ unfoldable pub numberOf : Origin → List ℕ
 numberOf (master n) = n ∷ []
 numberOf (program entry element bytes) = []
 
--- is n one of these numbers?
+-- whether n is one of these numbers
 unfoldable pub among : ℕ → List ℕ → Bool
 among n [] = false
 among n (m ∷ ms) = eqb n m || among n ms
@@ -56,12 +56,12 @@ made entry element bytes = record { depth = 0; origin = program entry element by
 unfoldable pub isTop : Node → Bool
 isTop x = eqb (x .depth) 0
 
--- is there no top node?
+-- whether there is no top node
 unfoldable pub noTop : Value → Bool
 noTop [] = true
 noTop (x ∷ v) = not (isTop x) && noTop v
 
--- does it begin with a top node, or is there nothing?
+-- whether it begins with a top node, or there is nothing
 unfoldable pub startsTop : Value → Bool
 startsTop [] = true
 startsTop (x ∷ v) = isTop x

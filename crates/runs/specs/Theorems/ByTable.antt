@@ -14,7 +14,7 @@ use Rattle.runs.specs.Reading.{Makes, leaf, one, two, choice, testLeaf, 
 use Rattle.runs.specs.Theorems.Congruence.{bind-same}
 use Rattle.runs.specs.Theorems.Table.{subEntries, classMade, reads-subEntries, reads-class}
 
--- does this class stand where a test is asked for, or where none is?
+-- whether this class stands where a test is asked for, or where none is
 unfoldable pub stands : Bool → Class → Bool
 stands true Tests = true
 stands true Transforms = false

@@ -9,7 +9,7 @@ use Rattle.values.specs.Standings.{Standing, untouched, isUntouched, isC
 use Rattle.values.specs.Theorems.MergeLaws.{by-untouched, unit-left, unit-right, merge-idem, merge-comm, merge-keeps, no-clash-right}
 use Rattle.values.specs.Theorems.Gathering.{only}
 
--- is the value's node i a copy of the master's node n?
+-- whether the value's node i is a copy of the master's node n
 unfoldable pub isCopy : ℕ → Value → ℕ → Bool
 isCopy n [] i = false
 isCopy n (x ∷ v) zero = isFrom n (x .origin)
