@@ -2,6 +2,7 @@
 
 use second::calls;
 use second::cases;
+use second::committed;
 use second::demand3::{self, Verdict};
 use second::file::{self, LONGEST_NODE_FILE, LONGEST_PROGRAM};
 use second::replay;
@@ -11,7 +12,8 @@ use std::io::{self, BufReader, BufWriter, Write};
 use std::path::Path;
 use std::process::ExitCode;
 
-const USAGE: &str = "usage: second show DIR | putback DIR | replay | cases SEED COUNT | check";
+const USAGE: &str =
+    "usage: second show DIR | putback DIR | replay | cases SEED COUNT | committed | check";
 
 fn main() -> ExitCode {
     let arguments: Vec<String> = std::env::args().skip(1).collect();
@@ -21,9 +23,10 @@ fn main() -> ExitCode {
         ["putback", folder] => one_call(Call::PutBack, Path::new(folder)),
         ["replay"] => replay_input(),
         ["cases", seed, count] => match (seed.parse(), count.parse()) {
-            (Ok(seed), Ok(count)) => write_cases(seed, count),
+            (Ok(seed), Ok(count)) => write_stream(seeded(seed, count)),
             _ => usage(),
         },
+        ["committed"] => write_stream(committed::cases().into_iter()),
         ["check"] => check_input(),
         _ => usage(),
     };
@@ -62,11 +65,16 @@ fn replay_input() -> io::Result<ExitCode> {
     Ok(ExitCode::SUCCESS)
 }
 
-fn write_cases(seed: u64, count: usize) -> io::Result<ExitCode> {
+/// Made one by one, as there may be more of them than fit into memory.
+fn seeded(seed: u64, count: usize) -> impl Iterator<Item = Case> {
+    (0..count).map(move |index| cases::case(seed, index))
+}
+
+fn write_stream(cases: impl Iterator<Item = Case>) -> io::Result<ExitCode> {
     let mut output = BufWriter::new(io::stdout());
-    for index in 0..count {
+    for case in cases {
         let mut bytes = Vec::new();
-        cases::case(seed, index).write(&mut bytes);
+        case.write(&mut bytes);
         output.write_all(&bytes)?;
     }
     output.flush()?;

@@ -1,6 +1,8 @@
-//! The committed cases: how often each reply occurs, and what their programs are made of.
+//! The committed cases: which they are; how often each reply occurs among the seeded ones, and what
+//! their programs are made of.
 
 use second::calls;
+use second::cases::bench;
 use second::committed;
 use second::entry::{self, Entry};
 use second::rules::Rules;
@@ -11,7 +13,7 @@ use std::collections::BTreeMap;
 fn replies() -> BTreeMap<(bool, u8), usize> {
     let rules = Rules::document();
     let mut replies = BTreeMap::new();
-    for case in committed::cases() {
+    for case in committed::seeded() {
         let number = calls::answer(&case, &rules).number;
         *replies.entry((case.call == Call::PutBack, number)).or_default() += 1;
     }
@@ -46,7 +48,7 @@ fn most_put_backs_get_through_to_the_standings() {
 fn every_operation_is_in_many_programs() {
     let rules = Rules::document();
     let mut programs: BTreeMap<u8, usize> = BTreeMap::new();
-    for case in committed::cases() {
+    for case in committed::seeded() {
         let entries = entry::read_file(&case.program, &rules.lines).unwrap_or_default();
         let operations = (0x01..=0x13).filter(|&byte| entries.iter().any(|at| is(at, byte)));
         operations.for_each(|byte| *programs.entry(byte).or_default() += 1);
@@ -59,6 +61,16 @@ fn every_operation_is_in_many_programs() {
 
 fn is(entry: &Entry, operation: u8) -> bool {
     entry.to_bytes()[0] == operation
+}
+
+#[test]
+fn the_stream_begins_with_the_bench_examples() {
+    let cases = committed::cases();
+    let examples = bench::examples();
+    assert_eq!(cases.len(), examples.len() + committed::COUNT);
+    for (case, example) in cases.iter().zip(examples) {
+        assert_eq!(*case, example.case, "example {}", example.number);
+    }
 }
 
 #[test]

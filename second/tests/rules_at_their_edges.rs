@@ -2,7 +2,7 @@
 
 mod common;
 
-use common::{M, P, done, file, nested, pp, put_back, refused, show, texts};
+use common::{M, P, PP, done, file, nested, put_back, refused, show, texts};
 use second::calls;
 use second::rules::Rules;
 use second::stream::{Call, Case};
@@ -135,5 +135,5 @@ fn both_sides_of_a_comparison_are_locked() {
 fn equal_edits_on_copies_are_one_edit() {
     let view = ["0001020002026869", "0001010004026869", "0001020002026869", "0001010004026869"];
     let edited = [M[0], M[1], "0201020002026869", M[3], "0201010004026869"];
-    assert_eq!(put_back(&M, &pp(), &view), done(&edited));
+    assert_eq!(put_back(&M, &PP, &view), done(&edited));
 }

@@ -4,6 +4,7 @@ pub mod Reading
 pub mod Showing
 pub mod PuttingBack
 pub mod Grounds
+pub mod Paper
 pub mod Theorems
 pub mod Runs
 pub mod Lookups

@@ -23,5 +23,7 @@ pub mod ByTable
 pub mod Soundness
 pub mod WholePrograms
 pub mod OneEnd
+-- The paper beside the rules
+pub mod Paper
 -- Computed
 pub mod Cases

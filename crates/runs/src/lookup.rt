@@ -8,6 +8,7 @@ use lines::table::Shape;
 use lines::table::row_of;
 use lines::texts::same_text;
 use lines::texts::texts_agree;
+use values::nodes::LEVEL;
 ghost use mathlib.Core.Path.{_≡_};
 ghost use mathlib.Core.List.{List, map};
 ghost use Prim.Native.Nat.{ℕ};
@@ -21,9 +22,7 @@ ghost use Rattle.runs.specs.Runs.{madeBy, lookupOf};
 ghost use Rattle.runs.specs.Lookups.{textIn};
 
 // The low half of a word: from this on an entry of the program.
-const PROGRAM: u32 = 0x8000;
-
-const LEVEL: u32 = 0x10000;
+pub const PROGRAM: u32 = 0x8000;
 
 // The file and the place of a text; or there is none, and it counts as empty.
 pub enum Text {

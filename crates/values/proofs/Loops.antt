@@ -1,5 +1,5 @@
 -- Steps of the loops over an extent.
-use mathlib.Core.Path.{_≡_, refl, sym, _∙_, ap}
+use mathlib.Core.Path.{_≡_, refl, sym, _∙_, ap, ap₂}
 use mathlib.Core.Bool.{Bool, true, false, cond, _&&_, not}
 use mathlib.Core.List.{List, [], _∷_, map}
 use mathlib.Core.Logic.{_⊎_, inl, inr}
@@ -10,7 +10,7 @@ use native.Mathlib.Omega.{arith}
 use borrow.Author.Tests.{lt-ltb, le-ltb, lt-leb, le-leb}
 use lib.ListN.{length, getD, take, drop, length-map, List·getD-map}
 use Rattle.lines.specs.Writing.{putAt}
-use Rattle.values.specs.Values.{Value, isTop, noTop, under, shallow}
+use Rattle.values.specs.Values.{Value, isTop, under, shallow}
 use Rattle.values.specs.Words.{Made, part, nodeOf, valueAt, mergedWord, mergedWords}
 use Rattle.values.specs.Theorems.Extents.{length-part, getD-part, put-none, put-more, put-reads}
 use Rattle.values.specs.Theorems.WordLaws.{value-cons, value-none, top-word}
@@ -75,6 +75,9 @@ merged-at v w to from len i h p q =
 
 -- ## Reading an extent from place i on
 
+pub rest-all : (made : Made) (w : List ℕ) (start len : ℕ) → valueAt made w (start + 0) (len - 0) ≡ valueAt made w start len
+rest-all made w start len = ap₂ (valueAt made w) (omega arith) (omega arith)
+
 module _ (made : Made) (w : List ℕ) (start len i : ℕ) (fits : start + len ≤ length w) where
   pub rest-none : len ≤ i → valueAt made w (start + i) (len - i) ≡ []
   rest-none h = ap (valueAt made w (start + i)) (let z : len - i ≡ 0 = omega arith in z) ∙ value-none made w (start + i)
@@ -86,19 +89,11 @@ module _ (made : Made) (w : List ℕ) (start len i : ℕ) (fits : start + len �
 
 -- a top node, any other node, and nothing
 module _ (made : Made) (x : ℕ) (v : Value) where
-  pub tops-here : x < 0x10000 → noTop (nodeOf made x ∷ v) ≡ false
-  unfolding noTop
-  tops-here h = rw (top-word made x, lt-ltb x 0x10000 h)
-
-  pub tops-later : 0x10000 ≤ x → noTop (nodeOf made x ∷ v) ≡ noTop v
-  unfolding noTop
-  tops-later h = rw (top-word made x, le-ltb x 0x10000 h)
-
-  pub under-here : x < 0x10000 → length (under (nodeOf made x ∷ v)) ≡ 0
+  under-here : x < 0x10000 → length (under (nodeOf made x ∷ v)) ≡ 0
   unfolding under
   under-here h = rw (top-word made x, lt-ltb x 0x10000 h)
 
-  pub under-later : 0x10000 ≤ x → length (under (nodeOf made x ∷ v)) ≡ 1 + length (under v)
+  under-later : 0x10000 ≤ x → length (under (nodeOf made x ∷ v)) ≡ 1 + length (under v)
   unfolding under
   under-later h = rw (top-word made x, le-ltb x 0x10000 h) (omega arith)
 
@@ -110,17 +105,25 @@ module _ (made : Made) (x : ℕ) (v : Value) where
   unfolding shallow nodeOf
   deep-later h = rw (le-leb (x / 0x10000) 9 h)
 
-pub tops-none : noTop [] ≡ true
-unfolding noTop
-tops-none = refl
-
-pub under-none : length (under []) ≡ 0
+under-none : length (under []) ≡ 0
 unfolding under
 under-none = refl
 
 pub deep-none : shallow [] ≡ true
 unfolding shallow
 deep-none = refl
+
+-- the nodes before the first top node, at place i: it stands there, it comes later, and the extent is at its end
+module _ (made : Made) (w : List ℕ) (start len i : ℕ) (fits : start + len ≤ length w) where
+  pub under-top : i < len → getD w (start + i) 0 < 0x10000 → length (under (valueAt made w (start + i) (len - i))) ≡ 0
+  under-top h t = rw (rest-cons made w start len i fits h) (under-here made (getD w (start + i) 0) _ t)
+
+  pub under-more : i < len → 0x10000 ≤ getD w (start + i) 0
+      → length (under (valueAt made w (start + i) (len - i))) ≡ 1 + length (under (valueAt made w (start + (i + 1)) (len - (i + 1))))
+  under-more h t = rw (rest-cons made w start len i fits h) (under-later made (getD w (start + i) 0) _ t)
+
+  pub under-end : len ≤ i → length (under (valueAt made w (start + i) (len - i))) ≡ 0
+  under-end h = rw (rest-none made w start len i fits h) under-none
 
 -- two extents apart, while word i of each is read
 pub beside : (from to len i : ℕ) → (to + len ≤ from) ⊎ (from + len ≤ to) → i < len → (from + i < to) ⊎ (to + i ≤ from + i)

@@ -39,6 +39,11 @@ loweredWord x = cond (ltb x 0x10000) x (x - 0x10000)
 unfoldable pub raisedWord : ℕ → ℕ
 raisedWord x = cond (ltb x 0xFFFF0000) (x + 0x10000) x
 
+-- one of the two: up, or down
+abbrev pub leveledWord : Bool → ℕ → ℕ
+leveledWord true = loweredWord
+leveledWord false = raisedWord
+
 -- how many nodes the first item of an extent has
 pub record FirstItem (w : List ℕ) (start len r : ℕ) : Type 0 where
   pub long : (made : Made) → r ≡ 1 + length (under (valueAt made w (start + 1) (len - 1)))

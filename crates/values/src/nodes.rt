@@ -5,33 +5,18 @@ ghost use mathlib.Core.Logic.{_⊎_};
 ghost use Prim.Native.Nat.{_+_, _-_, _<_, _≤_};
 ghost use lib.ListN.{length};
 ghost use Rattle.lines.specs.Writing.{putAt};
-ghost use Rattle.values.specs.Values.{noTop, shallow};
-ghost use Rattle.values.specs.Words.{Made, part, valueAt, loweredWord, raisedWord, FirstItem};
+ghost use Rattle.values.specs.Values.{noTop, under, shallow};
+ghost use Rattle.values.specs.Words.{Made, part, valueAt, loweredWord, raisedWord, leveledWord, FirstItem};
 
 // A word's depth is its high half.
-const LEVEL: u32 = 0x10000;
+pub const LEVEL: u32 = 0x10000;
 
-// Whether no node of the extent is a top node.
-pub fn no_top(work: &[u32], start: usize, len: usize) -> bool
+// How many nodes stand before the first top node.
+fn nodes_under(work: &[u32], start: usize, len: usize) -> usize
     requires { ⌜ start + len ≤ length (now work) ⌝ }
-    ensures { λ r. ⌜ ((made : Made) → r ≡ noTop (valueAt made (now (work .entry)) start len)) ⌝ }
+    ensures { λ r. ⌜ ((made : Made) → r ≡ length (under (valueAt made (now (work .entry)) start len))) × (r ≤ len) ⌝ }
 {
     let mut i: usize = 0;
-    while i < len {
-        if work[start + i] < LEVEL {
-            return false;
-        }
-        i += 1;
-    }
-    true
-}
-
-// How many nodes the first item has: up to the next top node.
-pub fn first_item(work: &[u32], start: usize, len: usize) -> usize
-    requires { ⌜ (0 < len) × (start + len ≤ length (now work)) ⌝ }
-    ensures { λ r. ⌜ FirstItem (now (work .entry)) start len r ⌝ }
-{
-    let mut i: usize = 1;
     while i < len {
         if work[start + i] < LEVEL {
             return i;
@@ -39,6 +24,22 @@ pub fn first_item(work: &[u32], start: usize, len: usize) -> usize
         i += 1;
     }
     i
+}
+
+// Whether no node of the extent is a top node.
+pub fn no_top(work: &[u32], start: usize, len: usize) -> bool
+    requires { ⌜ start + len ≤ length (now work) ⌝ }
+    ensures { λ r. ⌜ ((made : Made) → r ≡ noTop (valueAt made (now (work .entry)) start len)) ⌝ }
+{
+    nodes_under(work, start, len) == len
+}
+
+// How many nodes the first item has: up to the next top node.
+pub fn first_item(work: &[u32], start: usize, len: usize) -> usize
+    requires { ⌜ (0 < len) × (start + len ≤ length (now work)) ⌝ }
+    ensures { λ r. ⌜ FirstItem (now (work .entry)) start len r ⌝ }
+{
+    1 + nodes_under(work, start + 1, len - 1)
 }
 
 // Whether each depth is within the bound.
@@ -74,17 +75,35 @@ fn raised_word(x: u32) -> u32
     x
 }
 
+fn leveled_word(x: u32, up: bool) -> u32
+    ensures { λ r. ⌜ r ≡ leveledWord up x ⌝ }
+{
+    if up {
+        return lowered_word(x);
+    }
+    raised_word(x)
+}
+
+// The extent at another place, each node one level up or down.
+fn relevel(work: &mut [u32], from: usize, len: usize, to: usize, up: bool)
+    requires { ⌜ (from + len ≤ length (now work)) × (to + len ≤ length (now work)) ⌝ }
+    requires { ⌜ (to ≤ from) ⊎ (from + len ≤ to) ⌝ }
+    ensures { λ _. ⌜ now (work .exit) ≡ putAt (now (work .entry)) to (map (leveledWord up) (part (now (work .entry)) from len)) ⌝ }
+{
+    let mut i: usize = 0;
+    while i < len {
+        work[to + i] = leveled_word(work[from + i], up);
+        i += 1;
+    }
+}
+
 // The extent at another place, each node one level up: contents as a value.
 pub fn lower(work: &mut [u32], from: usize, len: usize, to: usize)
     requires { ⌜ (from + len ≤ length (now work)) × (to + len ≤ length (now work)) ⌝ }
     requires { ⌜ (to ≤ from) ⊎ (from + len ≤ to) ⌝ }
     ensures { λ _. ⌜ now (work .exit) ≡ putAt (now (work .entry)) to (map loweredWord (part (now (work .entry)) from len)) ⌝ }
 {
-    let mut i: usize = 0;
-    while i < len {
-        work[to + i] = lowered_word(work[from + i]);
-        i += 1;
-    }
+    relevel(work, from, len, to, true);
 }
 
 // The extent at another place, each node one level down: a value as contents.
@@ -93,9 +112,5 @@ pub fn raise(work: &mut [u32], from: usize, len: usize, to: usize)
     requires { ⌜ (to ≤ from) ⊎ (from + len ≤ to) ⌝ }
     ensures { λ _. ⌜ now (work .exit) ≡ putAt (now (work .entry)) to (map raisedWord (part (now (work .entry)) from len)) ⌝ }
 {
-    let mut i: usize = 0;
-    while i < len {
-        work[to + i] = raised_word(work[from + i]);
-        i += 1;
-    }
+    relevel(work, from, len, to, false);
 }

@@ -1,5 +1,6 @@
-//! Seeded cases: each aims at a reply, some at two, and most at none.
+//! The bench examples; and seeded cases: each aims at a reply, some at two, and most at none.
 
+pub mod bench;
 mod build;
 mod chance;
 mod damage;

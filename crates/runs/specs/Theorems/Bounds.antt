@@ -166,7 +166,7 @@ pub master-good : (ls : List Line) → length ls ≤ mostNodes → masterBounds 
 unfolding masterBounds elementOf
 master-good ls few h =
     let look = lookupIn (numberedFrom 0 ls) in
-    let r = lines-good look (made 0 false []) 0 0 ls h (omega arith) (λ i b. ap (λ (l : Line). isElement (l .kind)) (one-line 0 ls i b)) in
+    let r = lines-good look (made 0 false []) 0 0 ls h (omega arith) (λ i b. ap (λ (l : Line). isElement (l .kind)) (one-line 0 ls i)) in
     record { few = le (length-whole 0 ls); low = r .1; trees = first (whole (numberedFrom 0 ls)) (r .0) }
   where
     le : length (whole (numberedFrom 0 ls)) ≡ length ls → length (whole (numberedFrom 0 ls)) ≤ mostNodes

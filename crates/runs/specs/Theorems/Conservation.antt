@@ -41,7 +41,7 @@ lock-append n c d = rw (among-append n c d) (either (among n c) (among n d))
     either true false = sym (unit-right locked)
     either false b = sym (unit-left (only b locked))
 
-lock-number : (n : ℕ) (o : Origin) → lock n (numberOf o) ≡ only (isFrom n o) locked
+pub lock-number : (n : ℕ) (o : Origin) → lock n (numberOf o) ≡ only (isFrom n o) locked
 unfolding among numberOf isFrom
 lock-number n (master m) = ap (λ (b : Bool). only b locked) (or-unit (eqb n m))
 lock-number n (program e b t) = refl

@@ -95,7 +95,7 @@ nothing-at zero = refl
 nothing-at (suc i) = nothing-at i
 
 -- a line of node n is read beside that node's bytes
-brought-at : (look : Lookup) (v : Value) (ls : List Line) (n i : ℕ) → isCopy n v i ≡ true
+pub brought-at : (look : Lookup) (v : Value) (ls : List Line) (n i : ℕ) → isCopy n v i ≡ true
     → standingAt (brought look v ls) i ≡ brings (look .bytes n) ((lineAt ls i) .mark) ((lineAt ls i) .text)
 unfolding brought standingAt isCopy brings
 brought-at look [] ls n i h = cc

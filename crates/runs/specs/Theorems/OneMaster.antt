@@ -37,14 +37,14 @@ unfolding numberedFrom
 one-rising k [] = tt
 one-rising k (l ∷ ls) = (omega arith, one-rising (suc k) ls)
 
--- the line of a number is the line at its place
-pub one-line : (k : ℕ) (ls : List Line) (n : ℕ) → n < length ls → lineOf (numberedFrom k ls) (k + n) ≡ getD ls n noLine
+-- the line of a number is the line at its place, and none where there is none
+pub one-line : (k : ℕ) (ls : List Line) (n : ℕ) → lineOf (numberedFrom k ls) (k + n) ≡ getD ls n noLine
 unfolding numberedFrom lineOf
-one-line k [] n h = absurd (omega arith)
-one-line k (l ∷ ls) zero h = rw (eq-eqb (k + 0) k (omega arith))
-one-line k (l ∷ ls) (suc n) h =
+one-line k [] n = refl
+one-line k (l ∷ ls) zero = rw (eq-eqb (k + 0) k (omega arith))
+one-line k (l ∷ ls) (suc n) =
     rw (ne-eqb (k + suc n) k (λ e. omega arith))
-    (ap (λ (m : ℕ). lineOf (numberedFrom (suc k) ls) m) (let e : k + suc n ≡ suc k + n = omega arith in e) ∙ one-line (suc k) ls n (omega arith))
+    (ap (λ (m : ℕ). lineOf (numberedFrom (suc k) ls) m) (let e : k + suc n ≡ suc k + n = omega arith in e) ∙ one-line (suc k) ls n)
 
 -- what is handed back is one master again
 one-numbered : (s : ℕ → Standing) (k : ℕ) (ls : List Line) → numberedFrom k (linesIn (handedBack s (numberedFrom k ls))) ≡ handedBack s (numberedFrom k ls)
@@ -55,17 +55,14 @@ one-numbered s k (l ∷ ls) = rw (one-numbered s (suc k) ls)
 pub one-after : (s : ℕ → Standing) (ls : List Line) → oneMaster (linesIn (handedBack s (numberedFrom 0 ls))) ≡ after (oneMaster ls) s
 one-after s ls = rw (one-numbered s 0 ls, whole-handedBack s (numberedFrom 0 ls))
 
-length-handedBack : (s : ℕ → Standing) (k : ℕ) (ls : List Line) → length (linesIn (handedBack s (numberedFrom k ls))) ≡ length ls
+pub length-handedBack : (s : ℕ → Standing) (k : ℕ) (ls : List Line) → length (linesIn (handedBack s (numberedFrom k ls))) ≡ length ls
 unfolding numberedFrom linesIn handedBack
 length-handedBack s k [] = refl
 length-handedBack s k (l ∷ ls) = ap suc (length-handedBack s (suc k) ls)
 
 -- each of its lines, at its place
-pub one-handedBack : (s : ℕ → Standing) (ls : List Line) (n : ℕ) → n < length ls
-    → getD (linesIn (handedBack s (numberedFrom 0 ls))) n noLine ≡ lineOf (handedBack s (numberedFrom 0 ls)) n
-one-handedBack s ls n h =
-    let l = length-handedBack s 0 ls in
-    sym (one-line 0 (linesIn (handedBack s (numberedFrom 0 ls))) n (omega arith)) ∙ ap₂ lineOf (one-numbered s 0 ls) (zero-add n)
+pub one-handedBack : (s : ℕ → Standing) (ls : List Line) (n : ℕ) → getD (linesIn (handedBack s (numberedFrom 0 ls))) n noLine ≡ lineOf (handedBack s (numberedFrom 0 ls)) n
+one-handedBack s ls n = sym (one-line 0 (linesIn (handedBack s (numberedFrom 0 ls))) n) ∙ ap₂ lineOf (one-numbered s 0 ls) (zero-add n)
 
 -- reply 5 finds no more in it than before: depths, kinds and numbers stay
 bounds-handedBack : (s : ℕ → Standing) (most j k : ℕ) (ls : List Line) → boundsFrom most j (linesIn (handedBack s (numberedFrom k ls))) ≡ boundsFrom most j ls

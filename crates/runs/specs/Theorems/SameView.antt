@@ -53,7 +53,7 @@ same-formed rule G o ls h forms n i c =
     }
 
 -- "Mark 01 stands only on a text"
-element-mark : (kind mark : ℕ) (text : List ℕ) → isElement kind ≡ true → kindRule kind mark text ≡ true → eqb mark changedMark ≡ false
+pub element-mark : (kind mark : ℕ) (text : List ℕ) → isElement kind ≡ true → kindRule kind mark text ≡ true → eqb mark changedMark ≡ false
 unfolding kindRule isElement
 element-mark kind mark text e h = go (eqb mark changedMark) refl
   where

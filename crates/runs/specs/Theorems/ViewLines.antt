@@ -48,7 +48,7 @@ view-made G H [] i h = refl
 view-made G H (x ∷ v) zero h = made-same (G .lines) (H .lines) (x .depth) (x .origin) h
 view-made G H (x ∷ v) (suc i) h = view-made G H v i h
 
-shownLine-depth : (ls : List Numbered) (d : ℕ) (x : Origin) → (shownLine ls d x) .depth ≡ d
+pub shownLine-depth : (ls : List Numbered) (d : ℕ) (x : Origin) → (shownLine ls d x) .depth ≡ d
 unfolding shownLine
 shownLine-depth ls d (master n) = refl
 shownLine-depth ls d (program e b t) = refl

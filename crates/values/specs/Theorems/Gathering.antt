@@ -22,29 +22,29 @@ only-merge false s t = sym (unit-left untouched)
 
 -- ## Lists of standings
 
-merged-first : (ss ts : List Standing) → firstOf (merged ss ts) ≡ firstOf ss ⋓ firstOf ts
+pub merged-first : (ss ts : List Standing) → firstOf (merged ss ts) ≡ firstOf ss ⋓ firstOf ts
 unfolding merged
 merged-first [] ts = sym (unit-left (firstOf ts))
 merged-first (s ∷ ss) [] = sym (unit-right s)
 merged-first (s ∷ ss) (t ∷ ts) = refl
 
-merged-rest : (ss ts : List Standing) → restOf (merged ss ts) ≡ merged (restOf ss) (restOf ts)
+pub merged-rest : (ss ts : List Standing) → restOf (merged ss ts) ≡ merged (restOf ss) (restOf ts)
 unfolding merged
 merged-rest [] ts = refl
 merged-rest (s ∷ []) [] = refl
 merged-rest (s ∷ r ∷ ss) [] = refl
 merged-rest (s ∷ ss) (t ∷ ts) = refl
 
-take-first : (k : ℕ) (ss : List Standing) → firstOf (take (suc k) ss) ≡ firstOf ss
+pub take-first : (k : ℕ) (ss : List Standing) → firstOf (take (suc k) ss) ≡ firstOf ss
 take-first k [] = refl
 take-first k (s ∷ ss) = refl
 
-take-rest : (k : ℕ) (ss : List Standing) → restOf (take (suc k) ss) ≡ take k (restOf ss)
+pub take-rest : (k : ℕ) (ss : List Standing) → restOf (take (suc k) ss) ≡ take k (restOf ss)
 take-rest zero [] = refl
 take-rest (suc k) [] = refl
 take-rest k (s ∷ ss) = refl
 
-drop-rest : (k : ℕ) (ss : List Standing) → drop (suc k) ss ≡ drop k (restOf ss)
+pub drop-rest : (k : ℕ) (ss : List Standing) → drop (suc k) ss ≡ drop k (restOf ss)
 drop-rest zero [] = refl
 drop-rest (suc k) [] = refl
 drop-rest k (s ∷ ss) = refl

@@ -1,9 +1,10 @@
 -- Items: joined they are the value again; each is a top node and what stands under it; and the items of two values joined.
 use mathlib.Core.Path.{_≡_, refl, sym, ap, _∙_}
-use mathlib.Core.Bool.{Bool, true, false, cond}
+use mathlib.Core.Bool.{Bool, true, false, cond, _&&_, not}
 use mathlib.Core.List.{List, [], _∷_, _++_}
 use Prim.Native.Nat.{ℕ, zero, suc, _≤_}
 use native.Mathlib.Omega.{arith}
+use lib.Dec.{eqb, eqb·suc-suc, eqb·zero-suc}
 use lib.ListN.{length, length-append}
 use Rattle.values.specs.Values.{Node, Value, isTop, noTop, startsTop, under, onward, toFirst, items, joined}
 
@@ -74,6 +75,16 @@ under-noTop (x ∷ v) = go (isTop x) refl (under-noTop v)
     go : (b : Bool) → isTop x ≡ b → noTop (under v) ≡ true → noTop (cond b [] (x ∷ under v)) ≡ true
     go true e h = refl
     go false e h = rw e h
+
+-- there is no top node exactly if all nodes stand before the first one
+pub all-under : (v : Value) → eqb (length (under v)) (length v) ≡ noTop v
+unfolding noTop under
+all-under [] = refl
+all-under (x ∷ v) = go (isTop x) (all-under v)
+  where
+    go : (b : Bool) → eqb (length (under v)) (length v) ≡ noTop v → eqb (length (cond b [] (x ∷ under v))) (suc (length v)) ≡ (not b && noTop v)
+    go true h = eqb·zero-suc (length v)
+    go false h = eqb·suc-suc (length (under v)) (length v) ∙ h
 
 onward-shorter : (v : Value) → length (onward v) ≤ length v
 onward-shorter v = let l = length-append (under v) (onward v) in let e = ap length (under-onward v) in omega arith

@@ -1,11 +1,11 @@
 -- The rest from node `i` on is within the bound exactly if the extent is.
-use mathlib.Core.Path.{_≡_, sym, _∙_, ap₂}
-use Prim.Native.Nat.{ℕ, _+_, _-_, _≤_}
+use mathlib.Core.Path.{_≡_, sym, _∙_, ap}
+use Prim.Native.Nat.{_+_, _-_, _≤_}
 use native.Mathlib.Omega.{arith}
 use lib.ListN.{getD}
 use Rattle.values.specs.Values.{made, shallow}
 use Rattle.values.specs.Words.{Made, valueAt}
-use Rattle.values.proofs.Loops.{rest-none, rest-cons, deep-here, deep-later, deep-none}
+use Rattle.values.proofs.Loops.{rest-all, rest-none, rest-cons, deep-here, deep-later, deep-none}
 use Rattle.values.proofs.nodes.is_shallow.Statement.{statement}
 use Rattle.values.proofs.nodes.is_shallow.Tie as tie
 
@@ -16,7 +16,7 @@ abbrev μ-loop : tie.MeasureT-loop
 μ-loop work start len i₀ i = len - i
 
 loop-holds : tie.Need-loop-holds Inv-loop μ-loop
-loop-holds c = let a = c .args in (omega arith, λ made. ap₂ (λ (k n : ℕ). shallow (valueAt made (a .work .now) k n)) (omega arith) (omega arith))
+loop-holds c = let a = c .args in (omega arith, λ made. ap shallow (rest-all made (a .work .now) (a .start) (a .len)))
 
 add-if1 : tie.Need-add-if1 Inv-loop μ-loop
 add-if1 c = omega (arith, c .before .loop .inv .0)

@@ -1,59 +1,20 @@
--- The rest from node `i` on has a top node exactly if the extent has.
-use mathlib.Core.Path.{_≡_, sym, _∙_, ap₂}
-use Prim.Native.Nat.{ℕ, _+_, _-_, _≤_}
-use native.Mathlib.Omega.{arith}
-use lib.ListN.{getD}
-use Rattle.values.specs.Values.{made, noTop}
-use Rattle.values.specs.Words.{Made, valueAt}
-use Rattle.values.proofs.Loops.{rest-none, rest-cons, tops-here, tops-later, tops-none}
+-- There is no top node exactly if all nodes stand before the first one.
+use mathlib.Core.Path.{sym, _∙_, ap₂}
+use lib.Dec.{eqb}
+use borrow.Author.Needs.{needs}
+use Rattle.values.specs.Words.{valueAt}
+use Rattle.values.specs.Theorems.Items.{all-under}
+use Rattle.values.specs.Theorems.WordLaws.{length-value}
 use Rattle.values.proofs.nodes.no_top.Statement.{statement}
 use Rattle.values.proofs.nodes.no_top.Tie as tie
 
-abbrev Inv-loop : tie.InvT-loop
-Inv-loop work start len i₀ i = (i ≤ len) × ((made : Made) → noTop (valueAt made work (start + i) (len - i)) ≡ noTop (valueAt made work start len))
+nodes-under-requires : tie.Need-nodes-under-requires
+nodes-under-requires c κs = search needs
 
-abbrev μ-loop : tie.MeasureT-loop
-μ-loop work start len i₀ i = len - i
-
-loop-holds : tie.Need-loop-holds Inv-loop μ-loop
-loop-holds c = let a = c .args in (omega arith, λ made. ap₂ (λ (k n : ℕ). noTop (valueAt made (a .work .now) k n)) (omega arith) (omega arith))
-
-add-if1 : tie.Need-add-if1 Inv-loop μ-loop
-add-if1 c = omega (arith, c .before .loop .inv .0)
-
-mul-if1 : tie.Need-mul-if1 Inv-loop μ-loop
-mul-if1 c = omega (arith, c .before .loop .inv .0)
-
-shared-slice-read-if1 : tie.Need-shared-slice-read-if1 Inv-loop μ-loop
-shared-slice-read-if1 c = omega (arith, c .before .before .loop .inv .0)
-
-returns : tie.Need-returns Inv-loop μ-loop
-returns c = let a = c .before .before .before .before .args in λ made. sym (rw (rest-cons made (a .work .now) (a .start) (a .len) (c .before .before .before .loop .i) (c .before .before .before .before .pre) (c .before .before .loop-test .taken)) (tops-here made (getD (a .work .now) (a .start + c .before .before .before .loop .i) 0) _ (c .if1 .taken))) ∙ c .before .before .before .loop .inv .1 made
-
-add-i : tie.Need-add-i Inv-loop μ-loop
-add-i c = omega (arith, c .before .before .before .loop .inv .0)
-
-loop-less : tie.Need-loop-less Inv-loop μ-loop
-loop-less c = omega (arith, c .before .before .before .loop .inv .0)
-
-loop-again : tie.Need-loop-again Inv-loop μ-loop
-loop-again c = let a = c .before .before .before .before .args in (omega arith, λ made. sym (rw (rest-cons made (a .work .now) (a .start) (a .len) (c .before .before .before .loop .i) (c .before .before .before .before .pre) (c .before .before .loop-test .taken)) (tops-later made (getD (a .work .now) (a .start + c .before .before .before .loop .i) 0) _ (c .if1 .left))) ∙ c .before .before .before .loop .inv .1 made)
-
-returns-2 : tie.Need-returns-2 Inv-loop μ-loop
-returns-2 c = let a = c .before .before .args in λ made. sym (rw (rest-none made (a .work .now) (a .start) (a .len) (c .before .loop .i) (c .before .before .pre) (c .loop-test .left)) tops-none) ∙ c .before .loop .inv .1 made
+returns : tie.Need-returns
+returns c =
+    let a = c .before .before .args in
+    λ made. ap₂ eqb (c .nodes-under .ensures .0 made) (sym (length-value made (a .work .now) (a .start) (a .len) (c .before .before .pre))) ∙ all-under (valueAt made (a .work .now) (a .start) (a .len))
 
 pub no-top-spec : {M : Type 1} → statement M
-no-top-spec =
-    tie.close
-    (tie.spec
-    Inv-loop
-    μ-loop
-    loop-holds
-    add-if1
-    mul-if1
-    shared-slice-read-if1
-    returns
-    add-i
-    loop-less
-    loop-again
-    returns-2)
+no-top-spec = tie.close (tie.spec nodes-under-requires returns)

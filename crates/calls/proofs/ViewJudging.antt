@@ -1,0 +1,113 @@
+-- What the judging of an edited view says, by what the scanner and the two comparisons answered.
+use mathlib.Core.Path.{_≡_, sym, ap, _∙_}
+use mathlib.Core.Bool.{Bool, true, false, cond}
+use mathlib.Core.List.{List, [], _∷_}
+use Prim.Native.Nat.{ℕ, suc, _+_, _-_, _≤_, _<_}
+use native.Mathlib.Omega.{arith}
+use lib.ListN.{length, take, length-map}
+use Rattle.lines.specs.declared.scan.File.the-variants.{View}
+use Rattle.lines.specs.declared.scan.Scan.{Scan}
+use Rattle.lines.specs.declared.scan.Scan.the-variants.{Lines, Wrong}
+use Rattle.lines.specs.declared.verdict.Verdict.{Verdict}
+use Rattle.lines.specs.declared.verdict.Verdict.the-variants.{Fine, Fault}
+use Rattle.lines.specs.Files.{limitOf, scan, Scanned}
+use Rattle.lines.specs.Hex.{decode}
+use Rattle.lines.specs.Lines.{cut}
+use Rattle.lines.specs.Nodes.{nodes, nodeAt, nodeOf}
+use Rattle.lines.specs.Nodes.{Node as Line}
+use Rattle.lines.specs.Verdicts.{reply, firstFrom}
+use Rattle.lines.specs.Views.{sameLine, differenceFrom, firstDifference, programMarked, programMark}
+use Rattle.lines.specs.Theorems.Reading.{reads-view, scan-count}
+use Rattle.lines.specs.Theorems.RoundTrip.{nodes-writable, view-of-nodes}
+use Rattle.runs.specs.Results.{gives, stops}
+use Rattle.calls.specs.Judging.{formed, keeps, judgedView}
+use Rattle.calls.specs.Parts.{linesAt, ViewGoes}
+use Rattle.calls.proofs.Places.{scanned-whole, said-lines}
+
+-- ## Places
+
+first-inside : {A : Type 0} (fault : A → Bool) (k : ℕ) (xs : List A) (line : ℕ) → firstFrom fault k xs ≡ Fault line → line < k + length xs
+unfolding firstFrom
+first-inside fault k [] line e = absurd (let z : _≡_ {A = ℕ} 0 1 = cc in omega arith)
+first-inside fault k (x ∷ xs) line e = go (fault x) e (first-inside fault (suc k) xs line)
+  where
+    go : (b : Bool) → cond b (Fault k) (firstFrom fault (suc k) xs) ≡ Fault line
+        → (firstFrom fault (suc k) xs ≡ Fault line → line < suc k + length xs) → line < k + suc (length xs)
+    go true h ih = let z : k ≡ line = cc in omega arith
+    go false h ih = let z = ih h in omega arith
+
+-- it may stand behind the view's last line
+difference-inside : (k : ℕ) (vs fs : List Line) (line : ℕ) → differenceFrom k vs fs ≡ Fault line → line ≤ k + length vs
+unfolding differenceFrom
+difference-inside k [] [] line e = absurd (let z : _≡_ {A = ℕ} 0 1 = cc in omega arith)
+difference-inside k [] (f ∷ fs) line e = let z : k ≡ line = cc in omega arith
+difference-inside k (v ∷ vs) [] line e = let z : k ≡ line = cc in omega arith
+difference-inside k (v ∷ vs) (f ∷ fs) line e = go (sameLine v f) e (difference-inside (suc k) vs fs line)
+  where
+    go : (b : Bool) → cond b (differenceFrom (suc k) vs fs) (Fault k) ≡ Fault line
+        → (differenceFrom (suc k) vs fs ≡ Fault line → line ≤ suc k + length vs) → line ≤ k + suc (length vs)
+    go true h ih = let z = ih h in omega arith
+    go false h ih = let z : k ≡ line = cc in omega arith
+
+-- ## Ends
+
+pub view-misformed : (fresh : List Line) (s : List ℕ) (line : ℕ) → scan View s ≡ Wrong line → judgedView fresh s ≡ stops (reply 8 line)
+unfolding judgedView formed
+view-misformed fresh s line e = rw e
+
+module _ {s before noted : List ℕ} {r : Scan} (x : Scanned View s before noted r) (n : ℕ) (e : r ≡ Lines n) where
+  view-lines : nodes s ≡ linesAt s (take n noted)
+  view-lines = said-lines nodes nodeAt reads-view (scanned-whole x n e)
+
+  view-scans : scan View s ≡ Lines n
+  view-scans = sym (x .answer) ∙ e
+
+  pub view-few : n ≤ 128
+  unfolding limitOf
+  view-few = scanned-whole x n e .few
+
+  -- the part of the notes that the code hands on
+  part-lines : nodes s ≡ linesAt s (take (n - 0) noted)
+  part-lines = view-lines ∙ ap (λ (k : ℕ). linesAt s (take k noted)) (let e : n ≡ n - 0 = omega arith in e)
+
+  part-few : length (linesAt s (take (n - 0) noted)) ≤ 128
+  unfolding nodes
+  part-few = omega (arith, ap length part-lines, length-map (cut s) (λ c. nodeOf (decode c)), scan-count View s n view-scans, view-few)
+
+  module _ (fresh : List Line) {v : Verdict} (compared : v ≡ firstDifference (linesAt s (take (n - 0) noted)) fresh) where
+    difference-read : firstDifference (nodes s) fresh ≡ v
+    difference-read = ap (λ (ls : List Line). firstDifference ls fresh) part-lines ∙ sym compared
+
+    pub view-differs : (line : ℕ) → v ≡ Fault line → judgedView fresh s ≡ stops (reply 9 line)
+    unfolding judgedView formed keeps
+    view-differs line f = rw (view-scans, difference-read ∙ f)
+
+    pub difference-place : (line : ℕ) → v ≡ Fault line → line < 0x10000
+    unfolding firstDifference
+    difference-place line f =
+        let p = difference-inside 0 (linesAt s (take (n - 0) noted)) fresh line (sym compared ∙ f) in
+        omega (arith, p, part-few)
+
+    module _ (same : v ≡ Fine) {u : Verdict} (marks : u ≡ programMark (linesAt s (take (n - 0) noted))) where
+      mark-read : programMark (nodes s) ≡ u
+      mark-read = ap programMark part-lines ∙ sym marks
+
+      pub view-marked : (line : ℕ) → u ≡ Fault line → judgedView fresh s ≡ stops (reply 10 line)
+      unfolding judgedView formed keeps
+      view-marked line f = rw (view-scans, difference-read ∙ same, mark-read ∙ f)
+
+      pub mark-place : (line : ℕ) → u ≡ Fault line → line < 0x10000
+      unfolding programMark
+      mark-place line f =
+          let p = first-inside programMarked 0 (linesAt s (take (n - 0) noted)) line (sym marks ∙ f) in
+          omega (arith, p, part-few)
+
+      pub view-goes : u ≡ Fine → ViewGoes fresh s noted n
+      unfolding judgedView formed keeps
+      view-goes f =
+          record {
+            few = view-few;
+            lines = view-lines;
+            form = nodes-writable View view-of-nodes s n view-scans;
+            judged = rw (view-scans, difference-read ∙ same, mark-read ∙ f);
+          }

@@ -1,0 +1,4 @@
+pub mod Judging
+pub mod Outcomes
+pub mod Parts
+pub mod Theorems

@@ -1,0 +1,51 @@
+-- Each public call's contract decides its outcome: two outcomes that satisfy it are the same.
+use mathlib.Core.Path.{_≡_, sym, _∙_}
+use mathlib.Core.List.{List}
+use Prim.Native.Nat.{ℕ}
+use Rattle.calls.specs.Outcomes.{Outcome, outcome, showCall, putBackCall, PackedOutcome, packed, showInC, putBackInC}
+
+-- number, place, length, output buffer and work slice alike
+pub record Same (number₁ place₁ length₁ : ℕ) (out₁ work₁ : List ℕ) (number₂ place₂ length₂ : ℕ) (out₂ work₂ : List ℕ) : Type 0 where
+  pub number : number₁ ≡ number₂
+  pub place : place₁ ≡ place₂
+  pub length : length₁ ≡ length₂
+  pub out : out₁ ≡ out₂
+  pub work : work₁ ≡ work₂
+
+-- two outcomes that meet the same wanted one
+same-outcome : (wanted : Outcome) (number₁ place₁ length₁ : ℕ) (out₁ work₁ : List ℕ) (number₂ place₂ length₂ : ℕ) (out₂ work₂ : List ℕ)
+    → outcome number₁ place₁ length₁ out₁ work₁ ≡ wanted → outcome number₂ place₂ length₂ out₂ work₂ ≡ wanted
+    → Same number₁ place₁ length₁ out₁ work₁ number₂ place₂ length₂ out₂ work₂
+same-outcome wanted number₁ place₁ length₁ out₁ work₁ number₂ place₂ length₂ out₂ work₂ g h =
+    let e = g ∙ sym h in
+    record { number = cc; place = cc; length = cc; out = cc; work = cc }
+
+same-packed : (wanted : PackedOutcome) (answer₁ : ℕ) (out₁ : List ℕ) (answer₂ : ℕ) (out₂ : List ℕ)
+    → packed answer₁ out₁ ≡ wanted → packed answer₂ out₂ ≡ wanted → (answer₁ ≡ answer₂) × (out₁ ≡ out₂)
+same-packed wanted answer₁ out₁ answer₂ out₂ g h =
+    let e = g ∙ sym h in
+    (cc, cc)
+
+-- ## The calls
+
+pub show-unique : (master program out work : List ℕ) (number₁ place₁ length₁ : ℕ) (out₁ work₁ : List ℕ) (number₂ place₂ length₂ : ℕ) (out₂ work₂ : List ℕ)
+    → outcome number₁ place₁ length₁ out₁ work₁ ≡ showCall master program out work
+    → outcome number₂ place₂ length₂ out₂ work₂ ≡ showCall master program out work
+    → Same number₁ place₁ length₁ out₁ work₁ number₂ place₂ length₂ out₂ work₂
+show-unique master program out work = same-outcome (showCall master program out work)
+
+pub put-back-unique : (master program edited out work : List ℕ) (number₁ place₁ length₁ : ℕ) (out₁ work₁ : List ℕ) (number₂ place₂ length₂ : ℕ) (out₂ work₂ : List ℕ)
+    → outcome number₁ place₁ length₁ out₁ work₁ ≡ putBackCall master program edited out work
+    → outcome number₂ place₂ length₂ out₂ work₂ ≡ putBackCall master program edited out work
+    → Same number₁ place₁ length₁ out₁ work₁ number₂ place₂ length₂ out₂ work₂
+put-back-unique master program edited out work = same-outcome (putBackCall master program edited out work)
+
+-- ## Their forms for C
+
+pub show-in-C-unique : (master program out : List ℕ) (answer₁ : ℕ) (out₁ : List ℕ) (answer₂ : ℕ) (out₂ : List ℕ)
+    → packed answer₁ out₁ ≡ showInC master program out → packed answer₂ out₂ ≡ showInC master program out → (answer₁ ≡ answer₂) × (out₁ ≡ out₂)
+show-in-C-unique master program out = same-packed (showInC master program out)
+
+pub put-back-in-C-unique : (master program edited out : List ℕ) (answer₁ : ℕ) (out₁ : List ℕ) (answer₂ : ℕ) (out₂ : List ℕ)
+    → packed answer₁ out₁ ≡ putBackInC master program edited out → packed answer₂ out₂ ≡ putBackInC master program edited out → (answer₁ ≡ answer₂) × (out₁ ≡ out₂)
+put-back-in-C-unique master program edited out = same-packed (putBackInC master program edited out)

@@ -1,0 +1,191 @@
+// The call put back.
+use crate::lines_out::write_master;
+use crate::reach::Reached;
+use crate::reach::reach;
+use crate::reply::Reply;
+use crate::reply::Step;
+use crate::reply::done;
+use crate::reply::refuse;
+use crate::show::OUT_ROOM;
+use crate::show::WORK_ROOM;
+use crate::view_in::bring_view;
+use crate::view_in::judge_view;
+use crate::view_out::write_view;
+use lines::scan::File;
+use lines::scan::Scan;
+use lines::scan::scan_lines;
+use lines::verdict::Verdict;
+use runs::put::put;
+use runs::slots::no_slots;
+use values::extents::fill;
+use values::standings::CLASH;
+ghost use mathlib.Core.Path.{_≡_};
+ghost use mathlib.Core.List.{List, map};
+ghost use Prim.Native.Nat.{ℕ, _+_, _≤_};
+ghost use lib.ListN.{length};
+ghost use Rattle.lines.specs.Nodes.{nodeAt};
+ghost use Rattle.lines.specs.Entries.{entryAt};
+ghost use Rattle.lines.specs.Verdicts.{firstFrom};
+ghost use Rattle.values.specs.Standings.{isClash};
+ghost use Rattle.values.specs.Words.{standingsAt};
+ghost use Rattle.runs.specs.Grounds.{oneMaster};
+ghost use Rattle.calls.specs.Judging.{judgedPutBack, judgedStandings};
+ghost use Rattle.calls.specs.Outcomes.{outRoom, workRoom, outcome, putBackCall};
+ghost use Rattle.calls.specs.Parts.{Settles, Carriable, CarriedBack, Comparable, ComparedBack};
+
+// The first clash among the standings at place 256.
+fn first_clash(work: &[u32], len: usize) -> Verdict
+    requires { ⌜ 256 + len ≤ length (now work) ⌝ }
+    ensures { λ r. ⌜ ((texts : ℕ → List ℕ) → r ≡ firstFrom isClash 0 (standingsAt texts (now (work .entry)) 256 len)) ⌝ }
+{
+    let mut k: usize = 0;
+    while k < len {
+        if work[256 + k] == CLASH {
+            return Verdict::Fault(k);
+        }
+        k += 1;
+    }
+    Verdict::Fine
+}
+
+// Reply 11, or the lines handed back: the source lies at place 0, the view's standings come to 128, the master's to 256.
+fn carry(
+    program: &[u8],
+    entries: &[u16],
+    ends: &[u8],
+    master: &[u8],
+    nodes: &[u16],
+    view: &[u8],
+    lines: &[u16],
+    out: &mut [u8],
+    work: &mut [u32],
+) -> Reply
+    requires { ⌜ Carriable (map (entryAt (now program)) (now entries)) (now ends) (map (nodeAt (now master)) (now nodes)) (map (nodeAt (now view)) (now lines)) (now work) (now out) ⌝ }
+    ensures { λ r. ⌜ CarriedBack (map (entryAt (now (program .entry))) (now (entries .entry))) (map (nodeAt (now (master .entry))) (now (nodes .entry))) (map (nodeAt (now (view .entry))) (now (lines .entry))) (now (out .entry)) (now (out .exit)) r ⌝ }
+{
+    bring_view(view, lines, work);
+    let mut marks = [0u32; 512];
+    put(
+        program,
+        entries,
+        ends,
+        master,
+        nodes,
+        work,
+        &mut marks,
+        no_slots(),
+        0,
+        0,
+        nodes.len(),
+        128,
+        lines.len(),
+        256,
+        12,
+    );
+    let clash = first_clash(work, nodes.len());
+    match clash {
+        Verdict::Fault(k) => refuse(11, k),
+        Verdict::Fine => done(write_master(master, nodes, view, lines, work, out)),
+    }
+}
+
+// Replies 8 to 11: the view beside the fresh one, then its edits.
+fn compared(
+    program: &[u8],
+    entries: &[u16],
+    ends: &[u8],
+    master: &[u8],
+    nodes: &[u16],
+    len: usize,
+    view: &[u8],
+    out: &mut [u8],
+    work: &mut [u32],
+) -> Reply
+    requires { ⌜ Comparable (map (entryAt (now program)) (now entries)) (now ends) (map (nodeAt (now master)) (now nodes)) len (now work) (now out) ⌝ }
+    ensures { λ r. ⌜ ComparedBack (map (entryAt (now (program .entry))) (now (entries .entry))) (map (nodeAt (now (master .entry))) (now (nodes .entry))) (now (view .entry)) (now (out .entry)) (now (out .exit)) r ⌝ }
+{
+    let mut fresh = [0u8; 9856];
+    let end = write_view(program, entries, master, nodes, work, len, &mut fresh);
+    let mut fresh_lines = [0u16; 128];
+    let scanned = scan_lines(File::View, &fresh[0..end], &mut fresh_lines);
+    match scanned {
+        Scan::Wrong(line) => refuse(8, line),
+        Scan::Lines(m) => {
+            let mut lines = [0u16; 128];
+            let view_step = judge_view(view, &mut lines, &fresh[0..end], &fresh_lines[0..m]);
+            match view_step {
+                Step::Refused(reply) => reply,
+                Step::Goes(v) => carry(
+                    program,
+                    entries,
+                    ends,
+                    master,
+                    nodes,
+                    view,
+                    &lines[0..v],
+                    out,
+                    work,
+                ),
+            }
+        }
+    }
+}
+
+// What is judged once there is room.
+fn judged_put_back(
+    master: &[u8],
+    program: &[u8],
+    view: &[u8],
+    out: &mut [u8],
+    work: &mut [u32],
+) -> Reply
+    requires { ⌜ (outRoom ≤ length (now out)) × (workRoom ≤ length (now work)) ⌝ }
+    ensures { λ r. ⌜ Settles (judgedPutBack (now (master .entry)) (now (program .entry)) (now (view .entry))) (now (out .entry)) (now (out .exit)) r ⌝ }
+{
+    let mut entries = [0u16; 128];
+    let mut ends = [0u8; 96];
+    let mut nodes = [0u16; 128];
+    let reached = reach(
+        master,
+        program,
+        true,
+        &mut entries,
+        &mut ends,
+        &mut nodes,
+        work,
+    );
+    match reached {
+        Reached::Refused(reply) => reply,
+        Reached::Shown(e, n, len) => compared(
+            program,
+            &entries[0..e],
+            &ends[0..e],
+            master,
+            &nodes[0..n],
+            len,
+            view,
+            out,
+            work,
+        ),
+    }
+}
+
+pub fn put_back(
+    master: &[u8],
+    program: &[u8],
+    view: &[u8],
+    out: &mut [u8],
+    work: &mut [u32],
+) -> Reply
+    ensures { λ r. ⌜ outcome (r .number) (r .place) (r .length) (now (out .exit)) (now (work .exit)) ≡ putBackCall (now (master .entry)) (now (program .entry)) (now (view .entry)) (now (out .entry)) (now (work .entry)) ⌝ }
+{
+    if out.len() < OUT_ROOM {
+        return refuse(1, 0);
+    }
+    if work.len() < WORK_ROOM {
+        return refuse(1, 0);
+    }
+    let reply = judged_put_back(master, program, view, out, &mut work[0..WORK_ROOM]);
+    fill(work, 0, WORK_ROOM, 0);
+    reply
+}

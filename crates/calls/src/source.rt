@@ -1,0 +1,75 @@
+// The run of a program over a whole master: replies 6 and 7.
+use crate::reply::Reply;
+use crate::reply::Step;
+use crate::reply::refuse;
+use lines::fields::depth_at;
+use runs::show::show;
+use runs::slots::no_slots;
+use runs::stop::Run;
+use runs::stop::Stop;
+use values::nodes::LEVEL;
+ghost use mathlib.Core.Path.{_≡_};
+ghost use mathlib.Core.List.{map};
+ghost use Prim.Native.Nat.{_≤_};
+ghost use lib.ListN.{length};
+ghost use Rattle.lines.specs.Nodes.{nodeAt};
+ghost use Rattle.lines.specs.Entries.{entryAt};
+ghost use Rattle.lines.specs.Writing.{putAt};
+ghost use Rattle.runs.specs.Results.{stopNumber, stopEntry};
+ghost use Rattle.calls.specs.Outcomes.{workRoom};
+ghost use Rattle.calls.specs.Parts.{replied, sourceWords, Runnable, RanBy};
+
+// Each master node as a word, at the foot of the work slice.
+fn load(master: &[u8], nodes: &[u16], work: &mut [u32])
+    requires { ⌜ (length (now nodes) ≤ 128) × (128 ≤ length (now work)) ⌝ }
+    ensures { λ r. ⌜ now (work .exit) ≡ putAt (now (work .entry)) 0 (sourceWords 0 (map (nodeAt (now (master .entry))) (now (nodes .entry)))) ⌝ }
+{
+    let mut k: usize = 0;
+    while k < nodes.len() {
+        work[k] = depth_at(master, nodes[k]) as u32 * LEVEL + k as u32;
+        k += 1;
+    }
+}
+
+fn stopped(stop: Stop) -> Reply
+    ensures { λ r. ⌜ r ≡ replied (stopNumber stop) (stopEntry stop) 0 ⌝ }
+{
+    match stop {
+        Stop::Source(entry) => refuse(6, entry as usize),
+        Stop::Size(entry) => refuse(7, entry as usize),
+    }
+}
+
+// Leaves the source at place 0 and what is shown at place 128.
+pub fn run(
+    program: &[u8],
+    entries: &[u16],
+    ends: &[u8],
+    master: &[u8],
+    nodes: &[u16],
+    work: &mut [u32],
+) -> Step
+    requires { ⌜ Runnable (map (entryAt (now program)) (now entries)) (now ends) (map (nodeAt (now master)) (now nodes)) ⌝ }
+    requires { ⌜ workRoom ≤ length (now work) ⌝ }
+    ensures { λ r. ⌜ RanBy (map (entryAt (now (program .entry))) (now (entries .entry))) (map (nodeAt (now (master .entry))) (now (nodes .entry))) (now (work .exit)) r ⌝ }
+{
+    load(master, nodes, work);
+    let shown = show(
+        program,
+        entries,
+        ends,
+        master,
+        nodes,
+        work,
+        no_slots(),
+        0,
+        0,
+        nodes.len(),
+        128,
+        12,
+    );
+    match shown {
+        Run::Stop(stop) => Step::Refused(stopped(stop)),
+        Run::Value(value) => Step::Goes(value.len),
+    }
+}

@@ -1,0 +1,100 @@
+// The view's lines, written from the words of what was shown.
+use lines::fields::kind_at;
+use lines::fields::mark_at;
+use lines::write::Head;
+use lines::write::write_line;
+use runs::lookup::PROGRAM;
+use runs::lookup::Text;
+use runs::lookup::is_element_word;
+use runs::lookup::text_of_word;
+use values::nodes::LEVEL;
+ghost use mathlib.Core.Path.{_≡_};
+ghost use mathlib.Core.List.{map};
+ghost use Prim.Native.Nat.{_+_, _≤_, _<_, _/_};
+ghost use lib.ListN.{length};
+ghost use Rattle.lines.specs.Nodes.{nodeAt, untouchedMark};
+ghost use Rattle.lines.specs.Entries.{entryAt};
+ghost use Rattle.lines.specs.Writing.{headed, Written};
+ghost use Rattle.lines.specs.Writing.{lineOf as written};
+ghost use Rattle.values.specs.Words.{nodeOf};
+ghost use Rattle.calls.specs.Parts.{wordLine, viewLines, ViewRoom, WroteLines};
+
+// A node's fields: those of the master's line of its number, or of what an entry of the program makes.
+fn head_of(program: &[u8], entries: &[u16], master: &[u8], nodes: &[u16], word: u32) -> Head
+    requires { ⌜ word / 0x10000 < 256 ⌝ }
+    ensures { λ r. ⌜ headed r (wordLine (map (entryAt (now (program .entry))) (now (entries .entry))) (map (nodeAt (now (master .entry))) (now (nodes .entry))) word .text) ≡ wordLine (map (entryAt (now (program .entry))) (now (entries .entry))) (map (nodeAt (now (master .entry))) (now (nodes .entry))) word ⌝ }
+{
+    let depth = (word / LEVEL) as u8;
+    let origin = word % LEVEL;
+    if PROGRAM <= origin {
+        if is_element_word(program, entries, master, nodes, word) {
+            return unmarked_head(depth, 2, 0xFFFF);
+        }
+        return unmarked_head(depth, 1, 0xFFFF);
+    }
+    let n = origin as usize;
+    if nodes.len() <= n {
+        return unmarked_head(depth, 1, origin as u16);
+    }
+    Head {
+        depth,
+        kind: kind_at(master, nodes[n]),
+        mark: mark_at(master, nodes[n]),
+        number: origin as u16,
+    }
+}
+
+fn unmarked_head(depth: u8, kind: u8, number: u16) -> Head
+    ensures { λ r. ⌜ r ≡ record { depth = depth; kind = kind; mark = untouchedMark; number = number } ⌝ }
+{
+    Head {
+        depth,
+        kind,
+        mark: 0,
+        number,
+    }
+}
+
+fn write_word(
+    program: &[u8],
+    entries: &[u16],
+    master: &[u8],
+    nodes: &[u16],
+    word: u32,
+    out: &mut [u8],
+    pos: usize,
+) -> usize
+    requires { ⌜ word / 0x10000 < 256 ⌝ }
+    requires { ⌜ pos + length (written (wordLine (map (entryAt (now program)) (now entries)) (map (nodeAt (now master)) (now nodes)) word)) ≤ length (now out) ⌝ }
+    ensures { λ r. ⌜ Written (now (out .entry)) (now (out .exit)) pos (written (wordLine (map (entryAt (now (program .entry))) (now (entries .entry))) (map (nodeAt (now (master .entry))) (now (nodes .entry))) word)) r ⌝ }
+{
+    let head = head_of(program, entries, master, nodes, word);
+    let text = text_of_word(program, entries, nodes, word);
+    match text {
+        Text::Master(at) => write_line(out, pos, head, master, at),
+        Text::Program(at) => write_line(out, pos, head, program, at),
+        Text::Missing => write_line(out, pos, head, &program[0..0], 0),
+    }
+}
+
+// The place behind the last line.
+pub fn write_view(
+    program: &[u8],
+    entries: &[u16],
+    master: &[u8],
+    nodes: &[u16],
+    work: &[u32],
+    len: usize,
+    out: &mut [u8],
+) -> usize
+    requires { ⌜ ViewRoom (map (entryAt (now program)) (now entries)) (map (nodeAt (now master)) (now nodes)) (now work) len (now out) ⌝ }
+    ensures { λ r. ⌜ WroteLines (viewLines (map (entryAt (now (program .entry))) (now (entries .entry))) (map (nodeAt (now (master .entry))) (now (nodes .entry))) (now (work .entry)) len) (now (out .entry)) (now (out .exit)) r ⌝ }
+{
+    let mut pos: usize = 0;
+    let mut i: usize = 0;
+    while i < len {
+        pos = write_word(program, entries, master, nodes, work[128 + i], out, pos);
+        i += 1;
+    }
+    pos
+}

@@ -1,0 +1,83 @@
+-- Each word of the extent as it is one level up or down.
+use mathlib.Core.Path.{sym, _∙_, ap}
+use mathlib.Core.List.{map}
+use Prim.Native.Nat.{_+_, _-_}
+use native.Mathlib.Omega.{arith}
+use borrow.Author.Needs.{needs}
+use Rattle.values.specs.Words.{part, leveledWord}
+use Rattle.values.proofs.Loops.{Putting, putting-starts, putting-goes-on, putting-ends, putting-reads, apart, mapped-long, mapped-at}
+use Rattle.values.proofs.nodes.relevel.Statement.{statement}
+use Rattle.values.proofs.nodes.relevel.Tie as tie
+
+abbrev Inv-loop : tie.InvT-loop
+Inv-loop work₀ from len to up i₀ work i = Putting work₀ to (map (leveledWord up) (part work₀ from len)) len work i
+
+abbrev μ-loop : tie.MeasureT-loop
+μ-loop work₀ from len to up i₀ work i = len - i
+
+loop-holds : tie.Need-loop-holds Inv-loop μ-loop
+loop-holds c = let a = c .before .args in putting-starts (a .work .now) (a .to) _ (a .len) (mapped-long (leveledWord (a .up)) (a .work .now) (a .from) (a .len) (omega arith)) (omega arith)
+
+add-leveled-word : tie.Need-add-leveled-word Inv-loop μ-loop
+add-leveled-word c = omega (arith, c .before .loop .inv .most, c .before .loop .inv .long)
+
+mul-leveled-word : tie.Need-mul-leveled-word Inv-loop μ-loop
+mul-leveled-word c = omega (arith, c .before .loop .inv .most, c .before .loop .inv .long)
+
+slice-read-leveled-word : tie.Need-slice-read-leveled-word Inv-loop μ-loop
+slice-read-leveled-word c = omega (arith, c .before .before .loop .inv .most, c .before .before .loop .inv .long)
+
+leveled-word-requires : tie.Need-leveled-word-requires Inv-loop μ-loop
+leveled-word-requires c κs = search needs
+
+add-work : tie.Need-add-work Inv-loop μ-loop
+add-work c = omega (arith, c .before .before .before .loop .inv .most, c .before .before .before .loop .inv .long)
+
+mul-work : tie.Need-mul-work Inv-loop μ-loop
+mul-work c = omega (arith, c .before .before .before .loop .inv .most, c .before .before .before .loop .inv .long)
+
+slice-write-work : tie.Need-slice-write-work Inv-loop μ-loop
+slice-write-work c = omega (arith, c .before .before .before .loop .inv .most, c .before .before .before .loop .inv .long)
+
+add-i : tie.Need-add-i Inv-loop μ-loop
+add-i c = omega (arith, c .before .before .before .loop .inv .most, c .before .before .before .loop .inv .long)
+
+loop-less : tie.Need-loop-less Inv-loop μ-loop
+loop-less c = omega (arith, c .before .before .before .loop .inv .most, c .before .before .before .loop .inv .long)
+
+loop-again : tie.Need-loop-again Inv-loop μ-loop
+loop-again c =
+    let a = c .before .before .before .before .before .args in
+    let g = leveledWord (a .up) in
+    let i = c .before .before .before .loop .i in
+    let all = mapped-long g (a .work .now) (a .from) (a .len) (omega arith) in
+    let unread =
+    putting-reads (a .work .now) (a .to) _ (a .len) all (omega arith) (c .before .before .before .loop .inv) (a .from + i) (apart (a .from) (a .to) (a .len) i (c .before .before .before .before .before .pre .1) (c .before .before .loop-test .taken)) in
+    putting-goes-on (a .work .now) (a .to) _ (a .len) all (omega arith) (c .before .before .before .loop .inv) (c .before .before .loop-test .taken)
+    (c .leveled-word .ensures ∙ (ap g unread ∙ sym (mapped-at g (a .work .now) (a .from) (a .len) i (c .before .before .loop-test .taken) (omega arith))))
+
+same-length : tie.Need-same-length Inv-loop μ-loop
+same-length c = c .before .loop .inv .long
+
+returns : tie.Need-returns Inv-loop μ-loop
+returns c = let a = c .before .before .before .args in putting-ends (a .work .now) (a .to) _ (a .len) (mapped-long (leveledWord (a .up)) (a .work .now) (a .from) (a .len) (omega arith)) (omega arith) (c .before .loop .inv) (c .loop-test .left)
+
+pub relevel-spec : {M : Type 1} → statement M
+relevel-spec =
+    tie.close
+    (tie.spec
+    Inv-loop
+    μ-loop
+    loop-holds
+    add-leveled-word
+    mul-leveled-word
+    slice-read-leveled-word
+    leveled-word-requires
+    add-work
+    mul-work
+    slice-write-work
+    add-i
+    loop-less
+    loop-again
+    same-length
+    returns)

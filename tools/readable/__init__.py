@@ -1,0 +1,1 @@
+"""The readable form of masters, views and programs. docs/READABLE.md describes it."""
