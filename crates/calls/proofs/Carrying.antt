@@ -23,7 +23,7 @@ use Rattle.runs.specs.Grounds.{oneMaster, numberedFrom, lookupIn, showing, brou
 use Rattle.runs.specs.Runs.{madeBy, lookupOf, slotsAt, Ready, valueOnly, marksAt, marksTo, NamedTo, PutSpace, Seen, PutBy}
 use Rattle.runs.specs.declared.slots.Slots.{Slots as SlotWords}
 use Rattle.runs.specs.SlotWords.{noSlots}
-use Rattle.runs.specs.Theorems.Soundness.{Stands}
+use Rattle.runs.specs.Trees.{Stands}
 use Rattle.runs.specs.Theorems.Inversion.{gives-inj}
 use Rattle.runs.specs.Theorems.WholePrograms.{program-placed}
 use Rattle.calls.specs.Judging.{judgedStandings}

@@ -26,7 +26,7 @@ use Rattle.runs.specs.Reading.{readProgram}
 use Rattle.runs.specs.Showing.{Shown}
 use Rattle.runs.specs.Grounds.{oneMaster, showing, view}
 use Rattle.runs.specs.Runs.{madeBy}
-use Rattle.runs.specs.Theorems.Soundness.{Stands}
+use Rattle.runs.specs.Trees.{Stands}
 use Rattle.runs.specs.Theorems.Inversion.{gives-inj}
 use Rattle.runs.specs.Theorems.WholePrograms.{program-placed}
 use Rattle.calls.specs.Judging.{judgedView, judgedStandings}

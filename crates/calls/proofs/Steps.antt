@@ -16,7 +16,7 @@ use Rattle.lines.specs.Writing.{AllWritable, fileOf, putAt}
 use borrow.Author.Tests.{le-leb}
 use Rattle.values.specs.Values.{Value, mostNodes, mostDepth, shallow, withinBounds}
 use Rattle.values.specs.Theorems.Forests.{Shallow}
-use Rattle.runs.specs.Theorems.Soundness.{Stands}
+use Rattle.runs.specs.Trees.{Stands}
 use Rattle.runs.specs.Theorems.WholePrograms.{program-placed}
 use Rattle.runs.specs.Theorems.Bounds.{master-shows-good}
 use Rattle.values.specs.Words.{part, valueAt}

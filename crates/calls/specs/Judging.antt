@@ -42,7 +42,7 @@ unfoldable pub isTree : ℕ → Result ℕ Transformation → Judged Transformat
 isTree number (gives X) = gives X
 isTree number (stops place) = stops (reply number place)
 
--- a run that does not stop: 6 and 7 are the stop's own numbers
+-- a run that does not stop. 6: run stops for its source; 7: run stops for size; at the stop's entry
 unfoldable pub ran : Result Stop Shown → Judged Shown
 ran (gives o) = gives o
 ran (stops s) = stops (reply (stopNumber s) (stopEntry s))
@@ -55,7 +55,7 @@ judgedProgram program = do
   formed 2 (scan Program program)  -- 2: program line of wrong form, or line 96 present
   isTree 3 (readProgram (entries program))  -- 3: program breaks the tree or a bound
 
--- what reply 5 asks of a master, and whether it is put back to: "a master given to showing may carry marks"
+-- what reply 5 asks of a master, by whether a view is put back into it: "a master given to showing may carry marks"
 unfoldable pub masterRule : Bool → List Line → Verdict
 masterRule false ls = masterBounds ls
 masterRule true ls = earlier (masterBounds ls) (unmarked ls)
@@ -71,7 +71,7 @@ judgedMaster putting master = do
 unfoldable pub judgedView : List Line → List ℕ → Judged (List Line)
 judgedView fresh edited = do
   formed 8 (scan View edited)  -- 8: view line of wrong form, or line 128 present
-  keeps 9 (firstDifference (nodes edited) fresh)  -- 9: view differs from the fresh one
+  keeps 9 (firstDifference (nodes edited) fresh)  -- 9: view differs from the fresh one in count, depth, kind, number, or in the bytes of a line not marked 01
   keeps 10 (programMark (nodes edited))  -- 10: a line with number FFFF has a mark
   gives (nodes edited)
 

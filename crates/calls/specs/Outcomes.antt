@@ -27,12 +27,12 @@ enough out work = leb outRoom (length out) && leb workRoom (length work)
 unfoldable pub cleared : List ℕ → List ℕ
 cleared work = putAt work 0 (replicate workRoom 0)
 
--- 0: done, at 0. "On 0 the output buffer begins with the lines and keeps its bytes behind them. On all others it is untouched"
+-- 0: done, at 0. "On 0 the output buffer begins with the lines .. and keeps its bytes behind them. On all others it is untouched"
 unfoldable pub settled : Judged (List Line) → List ℕ → List ℕ → Outcome
 settled (gives ls) out work = outcome 0 0 (length (fileOf ls)) (putAt out 0 (fileOf ls)) work
 settled (stops r) out work = outcome (r .number) (r .place) 0 out work
 
--- 1: output buffer or work slice too short, at 0. "On 1 it is untouched whole"
+-- 1: output buffer or work slice too short, at 0; both are untouched
 unfoldable pub called : Judged (List Line) → List ℕ → List ℕ → Outcome
 called judged out work = cond (enough out work) (settled judged out (cleared work)) (outcome 1 0 0 out work)
 

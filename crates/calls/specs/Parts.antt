@@ -22,7 +22,7 @@ use Rattle.runs.specs.Reading.{readProgram}
 use Rattle.runs.specs.Showing.{Shown}
 use Rattle.runs.specs.Grounds.{noLine, numberedFrom, shownLine, oneMaster, showing, view}
 use Rattle.runs.specs.Runs.{Ended, madeBy}
-use Rattle.runs.specs.Theorems.Soundness.{Stands}
+use Rattle.runs.specs.Trees.{Stands}
 use Rattle.calls.specs.declared.reply.Reply.{Reply}
 use Rattle.calls.specs.declared.reply.Step.{Step}
 use Rattle.calls.specs.declared.reply.Step.the-variants.{Goes, Refused}

@@ -1,10 +1,7 @@
 // What a call answers, and a step of its judging.
 ghost use mathlib.Core.Path.{_≡_};
 ghost use Prim.Native.Nat.{_<_};
-ghost use lib.ListN.{length};
 ghost use Rattle.calls.specs.Parts.{replied};
-ghost use Rattle.calls.specs.Outcomes.{workRoom, cleared};
-use values::extents::fill;
 
 pub struct Reply {
     pub number: u8,

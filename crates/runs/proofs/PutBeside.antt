@@ -21,7 +21,7 @@ use Rattle.runs.specs.Programs.{Transformation, beside}
 use Rattle.runs.specs.Showing.{Slots, Shown, show}
 use Rattle.runs.specs.PuttingBack.{SlotStandings, back, valueOf, putBack}
 use Rattle.runs.specs.Runs.{madeBy, lookupOf, slotsAt, PutSpace, Seen, PutBy}
-use Rattle.runs.specs.Theorems.Soundness.{Stands}
+use Rattle.runs.specs.Trees.{Stands}
 use Rattle.runs.specs.Theorems.Inversion.{on-pair}
 use Rattle.runs.proofs.Trees.{at-beside, here, ready-beside}
 use Rattle.runs.proofs.SlotLaws.{slots-frame}

@@ -21,7 +21,7 @@ use Rattle.runs.specs.PuttingBack.{SlotStandings, firstSlot, restSlots, 
 use Rattle.runs.specs.Runs.{madeBy, lookupOf, slotsAt, PutSpace, Seen, PutBy}
 use Rattle.runs.specs.SlotWords.{oneMore}
 use Rattle.runs.specs.Theorems.Combinators.{bound}
-use Rattle.runs.specs.Theorems.Soundness.{Stands}
+use Rattle.runs.specs.Trees.{Stands}
 use Rattle.runs.proofs.Trees.{at-bind, here, slots-left, ready-bind}
 use Rattle.runs.proofs.SlotLaws.{more-at, more-bound}
 use Rattle.runs.proofs.PutWords.{holds-copied, kept-below}

@@ -21,7 +21,7 @@ use Rattle.runs.specs.Showing.{Slots, Shown, Answer, show, test}
 use Rattle.runs.specs.PuttingBack.{SlotStandings, Back, saysYes, putBack, putBackTest}
 use Rattle.runs.specs.Runs.{madeBy, lookupOf, slotsAt, yesOnly, branchAt, Ready, TestedBy, PutSpace, Seen, Asked, PutBy, TestPutBy}
 use Rattle.runs.specs.Theorems.Combinators.{branchRun}
-use Rattle.runs.specs.Theorems.Soundness.{Stands, StandsTest}
+use Rattle.runs.specs.Trees.{Stands, StandsTest}
 use Rattle.runs.specs.Theorems.Inversion.{no-gives, gives-inj, on-bind}
 use Rattle.runs.proofs.Trees.{at-choose, here, ready-choose}
 use Rattle.runs.proofs.SlotLaws.{slots-frame}

@@ -20,7 +20,7 @@ use Rattle.runs.specs.Programs.{Transformation, each}
 use Rattle.runs.specs.Showing.{Slots, Shown, inTurn, show}
 use Rattle.runs.specs.PuttingBack.{SlotStandings, Back, back, valueOf, overItems, putBack}
 use Rattle.runs.specs.Runs.{madeBy, lookupOf, slotsAt, Space, PutSpace, Seen, PutBy}
-use Rattle.runs.specs.Theorems.Soundness.{Stands}
+use Rattle.runs.specs.Trees.{Stands}
 use Rattle.runs.specs.Theorems.Inversion.{on-turn}
 use Rattle.runs.specs.Theorems.Lengths.{fitted-same}
 use Rattle.runs.proofs.Trees.{at-each, here, ready-each}

@@ -24,7 +24,7 @@ use Rattle.runs.specs.Showing.{Slots, Shown, oneElement, show}
 use Rattle.runs.specs.PuttingBack.{SlotStandings, back, putBack}
 use Rattle.runs.specs.Runs.{madeBy, lookupOf, slotsAt, bytesTo, mergedAt, Ready, PutSpace, Seen, PutBy}
 use Rattle.runs.specs.SlotWords.{innermost}
-use Rattle.runs.specs.Theorems.Soundness.{Stands}
+use Rattle.runs.specs.Trees.{Stands}
 use Rattle.runs.specs.Theorems.Inversion.{gives-inj, on-bind, on-element}
 use Rattle.runs.proofs.Trees.{at-source, at-nothing, at-text, at-tag, at-slot, at-contents, slot-bound}
 use Rattle.runs.proofs.SlotLaws.{found}

@@ -21,7 +21,7 @@ use Rattle.runs.specs.Reading.{noEntry}
 use Rattle.runs.specs.Showing.{Shown, Answer, show}
 use Rattle.runs.specs.PuttingBack.{SlotStandings, Back, valueOf, saysYes, putBack, putBackTest}
 use Rattle.runs.specs.Runs.{madeBy, lookupOf, slotsAt, Bound, Ready, valueOnly, yesOnly, Space, ShownBy, TestedBy, marksAt, NamedTo, PutSpace, Seen, PutBy, TestPutBy}
-use Rattle.runs.specs.Theorems.Soundness.{Stands, StandsTest}
+use Rattle.runs.specs.Trees.{Stands, StandsTest}
 use Rattle.runs.specs.Theorems.Inversion.{no-gives, gives-inj}
 use Rattle.runs.proofs.Trees.{here}
 use Rattle.runs.proofs.SlotLaws.{bound-higher, slots-frame}

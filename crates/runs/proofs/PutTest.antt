@@ -23,7 +23,7 @@ use Rattle.runs.specs.Reading.{noEntry}
 use Rattle.runs.specs.Showing.{Slots, Answer, oneText, show, test}
 use Rattle.runs.specs.PuttingBack.{SlotStandings, back, putBack, putBackTest}
 use Rattle.runs.specs.Runs.{madeBy, lookupOf, slotsAt, yesOnly, ReadyTest, PutSpace, Seen, Asked, PutBy, TestPutBy}
-use Rattle.runs.specs.Theorems.Soundness.{Stands, StandsTest}
+use Rattle.runs.specs.Trees.{Stands, StandsTest}
 use Rattle.runs.specs.Theorems.Inversion.{no-gives, on-bind, on-text}
 use Rattle.runs.proofs.Trees.{at-equals, here, here-test, ready-equals}
 use Rattle.runs.proofs.SlotLaws.{slots-frame}

@@ -20,7 +20,7 @@ use Rattle.runs.specs.Programs.{Transformation, andThen}
 use Rattle.runs.specs.Showing.{Slots, Shown, show}
 use Rattle.runs.specs.PuttingBack.{SlotStandings, valueOf, putBack}
 use Rattle.runs.specs.Runs.{madeBy, lookupOf, slotsAt, PutSpace, Seen, PutBy}
-use Rattle.runs.specs.Theorems.Soundness.{Stands}
+use Rattle.runs.specs.Trees.{Stands}
 use Rattle.runs.specs.Theorems.Inversion.{gives-inj, on-bind}
 use Rattle.runs.proofs.Trees.{at-then, here, ready-then}
 use Rattle.runs.proofs.SlotLaws.{slots-frame}

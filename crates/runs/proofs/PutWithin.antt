@@ -21,7 +21,7 @@ use Rattle.runs.specs.Programs.{Transformation, within}
 use Rattle.runs.specs.Showing.{Slots, oneElement, show}
 use Rattle.runs.specs.PuttingBack.{SlotStandings, back, inside, putBack}
 use Rattle.runs.specs.Runs.{madeBy, lookupOf, slotsAt, PutSpace, Seen, PutBy}
-use Rattle.runs.specs.Theorems.Soundness.{Stands}
+use Rattle.runs.specs.Trees.{Stands}
 use Rattle.runs.specs.Theorems.Inversion.{on-bind, on-element, on-bounded}
 use Rattle.runs.proofs.Trees.{at-within, here, ready-within}
 use Rattle.runs.proofs.SlotLaws.{slots-frame}

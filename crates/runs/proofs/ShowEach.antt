@@ -20,7 +20,7 @@ use Rattle.runs.specs.Results.{Result, gives}
 use Rattle.runs.specs.Programs.{Transformation}
 use Rattle.runs.specs.Reading.{noEntry}
 use Rattle.runs.specs.Showing.{inTurn, show}
-use Rattle.runs.specs.Theorems.Soundness.{Stands}
+use Rattle.runs.specs.Trees.{Stands}
 use Rattle.runs.specs.Runs.{madeBy, lookupOf, slotsAt, Bound, valueOnly, ShownBy}
 use Rattle.runs.proofs.SlotLaws.{slots-frame}
 use Rattle.runs.proofs.Trees.{at-each}

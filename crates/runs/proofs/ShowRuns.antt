@@ -26,7 +26,7 @@ use Rattle.runs.specs.Results.{Result, gives, stops}
 use Rattle.runs.specs.Programs.{Transformation, choose, Test}
 use Rattle.runs.specs.Reading.{noEntry}
 use Rattle.runs.specs.Showing.{Slots, Shown, inTurn, show, test}
-use Rattle.runs.specs.Theorems.Soundness.{Stands, StandsTest}
+use Rattle.runs.specs.Trees.{Stands, StandsTest}
 use Rattle.runs.specs.Runs.{madeBy, lookupOf, slotsAt, Ended, Bound, saidOf, valueOnly, ShownBy, TestedBy}
 use Rattle.runs.specs.Theorems.Combinators.{branchRun}
 use Rattle.runs.specs.Theorems.Combinators.{bound as bound-as}

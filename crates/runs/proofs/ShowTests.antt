@@ -19,7 +19,7 @@ use Rattle.runs.specs.Results.{gives}
 use Rattle.runs.specs.Programs.{Transformation}
 use Rattle.runs.specs.Reading.{noEntry}
 use Rattle.runs.specs.Showing.{oneText, show, test}
-use Rattle.runs.specs.Theorems.Soundness.{Stands}
+use Rattle.runs.specs.Trees.{Stands}
 use Rattle.runs.specs.Runs.{madeBy, lookupOf, slotsAt, TestedBy}
 use Rattle.runs.specs.Leaves.{isOneText}
 use Rattle.runs.proofs.Trees.{at-equals}

@@ -25,7 +25,7 @@ use Rattle.runs.specs.Results.{gives}
 use Rattle.runs.specs.Programs.{Transformation}
 use Rattle.runs.specs.Reading.{noEntry}
 use Rattle.runs.specs.Showing.{Single, single, oneElement, show}
-use Rattle.runs.specs.Theorems.Soundness.{Stands}
+use Rattle.runs.specs.Trees.{Stands}
 use Rattle.runs.specs.Theorems.Inversion.{gives-inj}
 use Rattle.runs.specs.Runs.{madeBy, lookupOf, slotsAt, Bound, ShownBy}
 use Rattle.runs.specs.Leaves.{isOneElement, Leaves}

@@ -14,7 +14,7 @@ use Rattle.runs.specs.Results.{Result, gives, stops, _>>=_, _>>_, ensure
 use Rattle.runs.specs.Reading.{Makes, leaf, one, two, choice, testLeaf, testOne, unknown, makes, Room, below, noEntry}
 use Rattle.runs.specs.Checking.{mayStand, inside, entriesOf}
 use Rattle.runs.specs.Theorems.Table.{subEntries, reads-subEntries}
-use Rattle.runs.specs.Theorems.ByTable.{stands, endBelow, endAt}
+use Rattle.runs.specs.Ends.{stands, endBelow, endAt}
 use Rattle.runs.proofs.TreeCheckRooms.{below-steps, may-alike, inside-alike}
 
 entry-of : {A B : Type 0} (f : A → B) (l : List A) (i : ℕ) (a : A) (b : B) → i < length l → getD (map f l) i b ≡ f (getD l i a)

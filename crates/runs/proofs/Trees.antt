@@ -14,7 +14,7 @@ use Rattle.values.specs.Values.{among}
 use Rattle.runs.specs.declared.slots.Slots.{Slots as SlotWords}
 use Rattle.runs.specs.Programs.{equals, Transformation, source, nothing, text, tag, slot, contents, within, andThen, beside, each, choose, bind, Test, compares, tagged, isElement}
 use Rattle.runs.specs.Reading.{Makes, leaf, one, two, choice, testLeaf, testOne, unknown, operations, makes, Room, insideEach, insideBind, noEntry}
-use Rattle.runs.specs.Theorems.Soundness.{height, testHeight, Sound, SoundTest, Stands, StandsTest}
+use Rattle.runs.specs.Trees.{height, testHeight, Sound, SoundTest, Stands, StandsTest}
 use Rattle.runs.specs.Runs.{bytesTo, Bound, Inside, Ready, ReadyTest}
 use Rattle.runs.specs.SlotWords.{oneMore}
 use Rattle.runs.proofs.SlotLaws.{more-inside}

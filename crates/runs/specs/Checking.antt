@@ -15,7 +15,7 @@ use Rattle.runs.specs.declared.tree.Checked.the-variants.{Next, Fault}
 use Rattle.runs.specs.Results.{Result, gives, stops}
 use Rattle.runs.specs.Programs.{Transformation, Test}
 use Rattle.runs.specs.Reading.{Room, insideEach, insideBind, readProgram, faultOf}
-use Rattle.runs.specs.Theorems.Soundness.{Stands, StandsTest}
+use Rattle.runs.specs.Trees.{Stands, StandsTest}
 use Rattle.runs.specs.Runs.{Ended}
 
 -- the entries whose lines begin at these places

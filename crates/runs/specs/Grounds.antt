@@ -1,4 +1,4 @@
--- The ground of a call: the numbered lines that a program runs over. Nothing here knows how many masters there are, nor where their numbers begin.
+-- The ground of a call: the numbered lines that a program runs over. Only `oneMaster` knows how many masters there are and where their numbers begin.
 use Prim.Native.Nat.{ℕ, suc}
 use mathlib.Core.Bool.{cond}
 use mathlib.Core.List.{List, [], _∷_, map}

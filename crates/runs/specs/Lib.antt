@@ -1,6 +1,8 @@
 pub mod Results
 pub mod Programs
 pub mod Reading
+pub mod Trees
+pub mod Ends
 pub mod Showing
 pub mod PuttingBack
 pub mod Grounds

@@ -24,7 +24,7 @@ use Rattle.runs.specs.Reading.{Room, noEntry}
 use Rattle.runs.specs.Showing.{Binding, Slots, Shown, Answer, show, test}
 use Rattle.runs.specs.PuttingBack.{SlotStandings, Back, putBack, putBackTest}
 use Rattle.runs.specs.Grounds.{noLine}
-use Rattle.runs.specs.Theorems.Soundness.{Stands, StandsTest, Placed, PlacedTest}
+use Rattle.runs.specs.Trees.{Stands, StandsTest, Placed, PlacedTest}
 
 -- ## The two files
 

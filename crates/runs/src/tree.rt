@@ -10,7 +10,7 @@ ghost use Prim.Native.Nat.{_≤_};
 ghost use Rattle.lines.specs.Entries.{classOf, rowOf};
 ghost use Rattle.values.specs.Values.{among};
 ghost use Rattle.runs.specs.Reading.{wholeRoom, insideEach, insideBind};
-ghost use Rattle.runs.specs.Theorems.ByTable.{stands, endOf, endBelow, endAt};
+ghost use Rattle.runs.specs.Ends.{stands, endOf, endBelow, endAt};
 ghost use Rattle.runs.specs.Checking.{roomOf, Kept, mayStand, inside, entriesOf, Sized, CheckedFrom, CheckedWhole};
 
 // What may still stand below an entry, and the slots bound there.

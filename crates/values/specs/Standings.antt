@@ -79,12 +79,12 @@ gathered n (x ∷ v) ss = cond (isFrom n (x .origin)) (firstOf ss) untouched ⋓
 
 -- ## Lines
 
--- what a view line brings, by the bytes of the fresh line, its own mark and its own bytes:
+-- what a view line brings, by the bytes of the fresh line (at which no case looks), its own mark and its own bytes:
 -- "untouched (mark 00), changed to its bytes (01) or deleted (02)"; "a line marked 01 counts as changed even if its text is the old one"
 unfoldable pub brings : List ℕ → ℕ → List ℕ → Standing
 brings fresh mark bytes = cond (eqb mark changedMark) (changed bytes) (cond (eqb mark deletedMark) deleted untouched)
 
--- whether that line is edited
+-- whether that line is edited: by its mark alone
 unfoldable pub isEdit : List ℕ → ℕ → List ℕ → Bool
 isEdit fresh mark bytes = eqb mark changedMark || eqb mark deletedMark
 

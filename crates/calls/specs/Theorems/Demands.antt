@@ -165,7 +165,7 @@ pub record SameLines (fresh returned again : List Line) : Type 0 where
   -- "or as before if the program made it."
   pub made : (i : ℕ) → FromProgram (lineAt fresh i) → lineAt again i ≡ lineAt fresh i
 
--- what the given asks of putting back, r being its outcome, and of showing
+-- what demand 3 asks, where this is given, of putting back, whose outcome is r, and of showing
 pub record Answers (show : ShowLike) (master program edited out work : List ℕ) (given : Given master program edited out work) (r : Outcome) : Type 0 where
   -- "It is accepted exactly if all edited lines of one node carry the same edit and no edited node's text was compared while the view was made."
   pub accepted : (numberOf r ≡ 0) ↔ ((n : ℕ) → Acceptable (nodes edited) (given .shown .compared) n)

@@ -21,6 +21,6 @@ pub mod Views
 pub mod Agreement
 pub mod Alike
 pub mod Adequacy
--- Computed: the paper's own examples both ways, and each difference
+-- Computed: the paper's own examples, and each difference
 pub mod Examples
 pub mod Differences

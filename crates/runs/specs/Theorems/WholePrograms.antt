@@ -12,7 +12,8 @@ use Rattle.runs.specs.Results.{gives}
 use Rattle.runs.specs.Programs.{equals, Transformation, source, nothing, text, tag, slot, contents, within, andThen, beside, each, choose, bind, Test, compares, tagged, isElement}
 use Rattle.runs.specs.Reading.{Room, wholeRoom, mostLevels, insideEach, insideBind, noEntry, transformationAt, readIn, readProgram}
 use Rattle.runs.specs.Theorems.Inversion.{on-gives, on-bind, on-ensure}
-use Rattle.runs.specs.Theorems.Soundness.{height, Sound, SoundTest, Stands, StandsTest, Placed, read-placed, placed-read}
+use Rattle.runs.specs.Trees.{height, Sound, SoundTest, Stands, StandsTest, Placed}
+use Rattle.runs.specs.Theorems.Soundness.{read-placed, placed-read}
 
 -- ## Nothing missing, nothing left over
 

@@ -29,7 +29,7 @@ use Rattle.runs.specs.Theorems.Paper.Showing.{Agrees, shows-forward}
 use Rattle.runs.specs.Theorems.Paper.Guards.{strict-yields}
 use Rattle.runs.specs.Theorems.Paper.Lines.{marksIn, sequence-view}
 use Rattle.runs.specs.Theorems.Paper.Masters.{master-grown}
-use Rattle.runs.specs.Theorems.Paper.Agreement.{ShownAlike, Judged, clashOf, handedBackBy, putBackBy, Suspect, PuttingBackAgrees}
+use Rattle.runs.specs.Theorems.Paper.Agreement.{ShownAlike, PassedTen, clashOf, handedBackBy, putBackBy, Suspect, PuttingBackAgrees}
 use Rattle.runs.specs.Theorems.Paper.Alike.{Alike, bothPut, bothFail, strict-alike, printed-alike}
 
 -- ## Showing
@@ -58,7 +58,7 @@ only-size ls (stops (Size e)) T h = inr (e, refl)
 
 -- ## Putting back
 
-pub putting-back-agrees : (entries : List Entry) (X : Transformation) (ls edited : List Line) (o : Shown) → Judged entries X ls edited o → PuttingBackAgrees X ls edited o
+pub putting-back-agrees : (entries : List Entry) (X : Transformation) (ls edited : List Line) (o : Shown) → PassedTen entries X ls edited o → PuttingBackAgrees X ls edited o
 putting-back-agrees entries X ls edited o J =
     record {
       accepted = whole (strict-alike entries X ls edited o J);

@@ -41,7 +41,7 @@ ShownAlike ls (stops (Size e)) p = Unit {0}
 -- ## Putting back
 
 -- what the calls have judged before they put a view back
-pub record Judged (entries : List Entry) (X : Transformation) (ls edited : List Line) (o : Shown) : Type 0 where
+pub record PassedTen (entries : List Entry) (X : Transformation) (ls edited : List Line) (o : Shown) : Type 0 where
   pub program : readProgram entries ≡ gives X  -- 3
   pub few : length ls ≤ mostNodes  -- 4
   pub bounds : masterBounds ls ≡ Faultless  -- 5

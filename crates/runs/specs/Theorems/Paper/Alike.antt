@@ -48,7 +48,7 @@ use Rattle.runs.specs.Theorems.Paper.Guards.{anyStanding, everyNumber, s
 use Rattle.runs.specs.Theorems.Paper.Lines.{Beside, InkedAll, sequence-drawn, drawn-brush, marksIn}
 use Rattle.runs.specs.Theorems.Paper.Masters.{AllNumbering, right-numbering, master-grown, unmarked-lines, paint-unmarked, gathered-whole, gathered-outside}
 use Rattle.runs.specs.Theorems.Paper.Views.{FineAlong, along-fine, fine-along, along-no-clash, Permitted, AllPermitted, edited-read, handed-read}
-use Rattle.runs.specs.Theorems.Paper.Agreement.{Judged, clashOf, handedBackBy, putBackBy, Suspect}
+use Rattle.runs.specs.Theorems.Paper.Agreement.{PassedTen, clashOf, handedBackBy, putBackBy, Suspect}
 
 -- both go through, with the same texts and marks (`non` read as untouched); or the paper fails and there is a clash
 pub data Alike (g : Guard) (X : Transformation) (ls edited : List Line) : Type 0 where
@@ -63,7 +63,7 @@ any-permitted (x ∷ v) ss = (one (x .origin), any-permitted v (restOf ss))
     one (master n) = refl
     one (program e b t) = tt
 
-module _ (entries : List Entry) (X : Transformation) (ls edited : List Line) (o : Shown) (J : Judged entries X ls edited o) where
+module _ (entries : List Entry) (X : Transformation) (ls edited : List Line) (o : Shown) (J : PassedTen entries X ls edited o) where
   abbrev all : List Numbered
   all = numberedFrom 0 ls
 
@@ -182,7 +182,7 @@ unkept-edit t mark text h = go (eqb mark changedMark) (eqb mark deletedMark) ref
     go false true p q h = inl (eqb-true mark deletedMark q)
     go false false p q h = let z : _≡_ {A = ℕ} 0 1 = cc in absurd (omega arith)
 
-module _ (entries : List Entry) (X : Transformation) (ls edited : List Line) (o : Shown) (J : Judged entries X ls edited o) where
+module _ (entries : List Entry) (X : Transformation) (ls edited : List Line) (o : Shown) (J : PassedTen entries X ls edited o) where
   -- with the strict guard the paper does what the rules do
   pub strict-alike : Alike strictGuard X ls edited
   strict-alike =

@@ -35,6 +35,12 @@ ten = 0x31 ∷ 0x30 ∷ []
 abbrev eleven : List ℕ
 eleven = 0x31 ∷ 0x31 ∷ []
 
+abbrev thirty : List ℕ
+thirty = 0x33 ∷ 0x30 ∷ []
+
+abbrev twentyFive : List ℕ
+twentyFive = 0x32 ∷ 0x35 ∷ []
+
 abbrev price : List ℕ
 price = 0x70 ∷ 0x72 ∷ 0x69 ∷ 0x63 ∷ 0x65 ∷ []
 
@@ -52,7 +58,7 @@ split-three : split (item hi (item lo (item ten none))) (2 ∷ 0 ∷ 1 ∷ []) �
 split-three = refl
 
 -- "merging <price>[30 (mod,s)] and <price>[25 (mod,s)] will cause a conflict"
-two-prices : mg (elt price oriE (src 0) (str ten mod′ (src 1) none) none) (elt price oriE (src 0) (str eleven mod′ (src 1) none) none) ≡ fail
+two-prices : mg (elt price oriE (src 0) (str thirty mod′ (src 1) none) none) (elt price oriE (src 0) (str twentyFive mod′ (src 1) none) none) ≡ fail
 unfolding sameText
 two-prices = refl
 

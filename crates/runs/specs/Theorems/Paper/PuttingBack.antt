@@ -10,7 +10,7 @@ use Rattle.runs.specs.Showing.{show, test}
 use Rattle.runs.specs.PuttingBack.{putBack, putBackTest}
 use Rattle.runs.specs.Reading.{Room}
 use Rattle.runs.specs.Theorems.Conservation.{law}
-use Rattle.runs.specs.Theorems.Soundness.{Sound, SoundTest}
+use Rattle.runs.specs.Trees.{Sound, SoundTest}
 use Rattle.runs.specs.Paper.Operators.{Guard}
 use Rattle.runs.specs.Paper.Semantics.{forward, asks, backward, holds}
 use Rattle.runs.specs.Paper.Programs.{written, asked}

@@ -15,7 +15,7 @@ use Rattle.runs.specs.Programs.{equals, Transformation, source, nothing,
 use Rattle.runs.specs.Showing.{Shown, Answer, shown, answer, oneTop, oneElement, oneText, bounded, inTurn, verdict, show, test}
 use Rattle.runs.specs.Reading.{Room}
 use Rattle.runs.specs.Theorems.Combinators.{Run, Asking, sourceRun, madeRun, slotRun, contentsRun, withinRun, thenRun, besideRun, eachRun, chooseRun, bindRun, comparesAsk, plainAsk}
-use Rattle.runs.specs.Theorems.Soundness.{Sound, SoundTest}
+use Rattle.runs.specs.Trees.{Sound, SoundTest}
 use Rattle.runs.specs.Paper.Data.{Sequence, none, _⧺_, May, fail, got, _>>=_, theString, theItem}
 use Rattle.runs.specs.Paper.Semantics.{Forward, xid-forward, xvar-forward, xchild-forward, xsetcnt-forward, xseq-forward, xpar-forward, onEach, xmap-forward, branch, xif-forward, xlet-forward, xeq-forward, xwithtag-forward, xiselement-forward, forward, asks}
 use Rattle.runs.specs.Paper.Semantics.{Asking as Predicated}

@@ -14,7 +14,9 @@ nodes-under-requires c κs = search needs
 returns : tie.Need-returns
 returns c =
     let a = c .before .before .args in
-    λ made. ap₂ eqb (c .nodes-under .ensures .0 made) (sym (length-value made (a .work .now) (a .start) (a .len) (c .before .before .pre))) ∙ all-under (valueAt made (a .work .now) (a .start) (a .len))
+    λ made.
+    ap₂ eqb (c .nodes-under .ensures .0 made) (sym (length-value made (a .work .now) (a .start) (a .len) (c .before .before .pre)))
+    ∙ all-under (valueAt made (a .work .now) (a .start) (a .len))
 
 pub no-top-spec : {M : Type 1} → statement M
 no-top-spec = tie.close (tie.spec nodes-under-requires returns)

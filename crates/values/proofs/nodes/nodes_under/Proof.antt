@@ -30,7 +30,10 @@ shared-slice-read-if1 c = omega (arith, c .before .before .loop .inv .0)
 returns : tie.Need-returns Inv-loop μ-loop
 returns c =
     let a = c .before .before .before .before .args in
-    (λ made. omega (arith, c .before .before .before .loop .inv .1 made, under-top made (a .work .now) (a .start) (a .len) (c .before .before .before .loop .i) (c .before .before .before .before .pre) (c .before .before .loop-test .taken) (c .if1 .taken)), omega (arith, c .before .before .before .loop .inv .0))
+    let so-far = c .before .before .before .loop .inv in
+    let i = c .before .before .before .loop .i in
+    let fits = c .before .before .before .before .pre in
+    (λ made. omega (arith, so-far .1 made, under-top made (a .work .now) (a .start) (a .len) i fits (c .before .before .loop-test .taken) (c .if1 .taken)), omega (arith, so-far .0))
 
 add-i : tie.Need-add-i Inv-loop μ-loop
 add-i c = omega (arith, c .before .before .before .loop .inv .0)
@@ -41,12 +44,16 @@ loop-less c = omega (arith, c .before .before .before .loop .inv .0)
 loop-again : tie.Need-loop-again Inv-loop μ-loop
 loop-again c =
     let a = c .before .before .before .before .args in
-    (omega arith, λ made. omega (arith, c .before .before .before .loop .inv .1 made, under-more made (a .work .now) (a .start) (a .len) (c .before .before .before .loop .i) (c .before .before .before .before .pre) (c .before .before .loop-test .taken) (c .if1 .left)))
+    let so-far = c .before .before .before .loop .inv in
+    let i = c .before .before .before .loop .i in
+    let fits = c .before .before .before .before .pre in
+    (omega arith, λ made. omega (arith, so-far .1 made, under-more made (a .work .now) (a .start) (a .len) i fits (c .before .before .loop-test .taken) (c .if1 .left)))
 
 returns-2 : tie.Need-returns-2 Inv-loop μ-loop
 returns-2 c =
     let a = c .before .before .args in
-    (λ made. omega (arith, c .before .loop .inv .1 made, under-end made (a .work .now) (a .start) (a .len) (c .before .loop .i) (c .before .before .pre) (c .loop-test .left)), omega (arith, c .before .loop .inv .0))
+    let so-far = c .before .loop .inv in
+    (λ made. omega (arith, so-far .1 made, under-end made (a .work .now) (a .start) (a .len) (c .before .loop .i) (c .before .before .pre) (c .loop-test .left)), omega (arith, so-far .0))
 
 pub nodes-under-spec : {M : Type 1} → statement M
 nodes-under-spec =

@@ -16,7 +16,10 @@ abbrev μ-loop : tie.MeasureT-loop
 μ-loop work₀ from len to up i₀ work i = len - i
 
 loop-holds : tie.Need-loop-holds Inv-loop μ-loop
-loop-holds c = let a = c .before .args in putting-starts (a .work .now) (a .to) _ (a .len) (mapped-long (leveledWord (a .up)) (a .work .now) (a .from) (a .len) (omega arith)) (omega arith)
+loop-holds c =
+    let a = c .before .args in
+    let all = mapped-long (leveledWord (a .up)) (a .work .now) (a .from) (a .len) (omega arith) in
+    putting-starts (a .work .now) (a .to) _ (a .len) all (omega arith)
 
 add-leveled-word : tie.Need-add-leveled-word Inv-loop μ-loop
 add-leveled-word c = omega (arith, c .before .loop .inv .most, c .before .loop .inv .long)
@@ -51,8 +54,8 @@ loop-again c =
     let g = leveledWord (a .up) in
     let i = c .before .before .before .loop .i in
     let all = mapped-long g (a .work .now) (a .from) (a .len) (omega arith) in
-    let unread =
-    putting-reads (a .work .now) (a .to) _ (a .len) all (omega arith) (c .before .before .before .loop .inv) (a .from + i) (apart (a .from) (a .to) (a .len) i (c .before .before .before .before .before .pre .1) (c .before .before .loop-test .taken)) in
+    let side = apart (a .from) (a .to) (a .len) i (c .before .before .before .before .before .pre .1) (c .before .before .loop-test .taken) in
+    let unread = putting-reads (a .work .now) (a .to) _ (a .len) all (omega arith) (c .before .before .before .loop .inv) (a .from + i) side in
     putting-goes-on (a .work .now) (a .to) _ (a .len) all (omega arith) (c .before .before .before .loop .inv) (c .before .before .loop-test .taken)
     (c .leveled-word .ensures ∙ (ap g unread ∙ sym (mapped-at g (a .work .now) (a .from) (a .len) i (c .before .before .loop-test .taken) (omega arith))))
 
@@ -60,7 +63,10 @@ same-length : tie.Need-same-length Inv-loop μ-loop
 same-length c = c .before .loop .inv .long
 
 returns : tie.Need-returns Inv-loop μ-loop
-returns c = let a = c .before .before .before .args in putting-ends (a .work .now) (a .to) _ (a .len) (mapped-long (leveledWord (a .up)) (a .work .now) (a .from) (a .len) (omega arith)) (omega arith) (c .before .loop .inv) (c .loop-test .left)
+returns c =
+    let a = c .before .before .before .args in
+    let all = mapped-long (leveledWord (a .up)) (a .work .now) (a .from) (a .len) (omega arith) in
+    putting-ends (a .work .now) (a .to) _ (a .len) all (omega arith) (c .before .loop .inv) (c .loop-test .left)
 
 pub relevel-spec : {M : Type 1} → statement M
 relevel-spec =

@@ -8,7 +8,7 @@ use borrow.Author.Needs.{needs}
 use borrow.Author.Tests.{not-true, not-false}
 use Rattle.lines.specs.Entries.{rowOf}
 use Rattle.runs.specs.Checking.{entriesOf, roomOf}
-use Rattle.runs.specs.Theorems.ByTable.{endBelow, endAt}
+use Rattle.runs.specs.Ends.{endBelow, endAt}
 use Rattle.runs.proofs.TreeCheckEnds.{fault-here, fault-below, stored}
 use Rattle.runs.proofs.TreeCheckEntries.{Goes, no-level, past-entries, entry-goes}
 use Rattle.runs.proofs.tree.check_at.Reads as check-at
