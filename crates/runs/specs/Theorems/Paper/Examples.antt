@@ -14,7 +14,7 @@ use Rattle.runs.specs.Programs.{equals, Transformation, source, nothing,
 use Rattle.runs.specs.Reading.{operations, makes, below, transformationAt, readIn, readProgram}
 use Rattle.runs.specs.Showing.{valueIn, oneTop, oneElement, oneText, bounded, inTurn, verdict, show}
 use Rattle.runs.specs.PuttingBack.{mergedInto, untouchedSlots, gatheredSlots, valueOf, saysYes, inside, overItems, putBack}
-use Rattle.runs.specs.Grounds.{numberedFrom, lineOf, whole, showing, brought, standing, standingFor, firstClash, handedBack, linesIn}
+use Rattle.runs.specs.Grounds.{numberedFrom, lineOf, whole, oneMaster, showing, shownLine, view, brought, standing, standingFor, firstClash, handedBack, linesIn}
 use Rattle.runs.specs.Paper.Data.{Updating, ori, non, mod′, oriE, src, code, Sequence, none, str, elt, fail, got}
 use Rattle.runs.specs.Paper.Language.{Construct, xid, xconst, xvar, xchild, xsetcnt, xseq, xpar, xmap, xif, xlet, xeq, xwithtag}
 use Rattle.runs.specs.Paper.Operators.{mg, split, guard}
@@ -206,6 +206,12 @@ unfolding forward sequence itemsAt isElement sameText
 again-bib = refl
 
 -- ## The same by the rules
+
+-- 10 twice, and the table of titles before the books
+shown-by-the-rules : (view (oneMaster oneTen) (valueOf (showing (oneMaster oneTen) tens)) ≡ line 0 1 0 0 ten ∷ line 0 1 0 0 ten ∷ [])
+    × (view (oneMaster books) (valueOf (showing (oneMaster books) bibTree)) ≡ bibLines 0 database (bookLines 0 database))
+unfolding view shownLine numberedFrom lineOf whole showing show valueIn oneTop oneElement oneText bounded inTurn verdict valueOf elementOf bytesOf numberOf isTop noTop startsTop lowered raised toFirst items shallow withinBounds isElement sameText agree
+shown-by-the-rules = (refl, refl)
 
 -- both edits of 10 are a clash of node 0; the edited title is handed back as the paper has it
 by-the-rules : (clashOf tens oneTen (line 0 1 1 0 eleven ∷ line 0 1 0 0 ten ∷ []) ≡ Fault 0)
