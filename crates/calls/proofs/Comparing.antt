@@ -1,10 +1,10 @@
 -- The view beside the fresh one: what the parts of that comparison ask, and what it leaves to carry.
-use Prim.Native.Nat.{ℕ, suc, _+_, _-_, _≤_, _<_}
+use Prim.Native.Nat.{ℕ, suc, _+_, _-_, _≤_}
 use native.Mathlib.Nat.{sub-zero}
 use native.Mathlib.Omega.{arith}
 use mathlib.Core.Path.{_≡_, refl, sym, ap, subst, _∙_}
 use mathlib.Core.Bool.{Bool, true, false, cond}
-use mathlib.Core.List.{List, [], _∷_, map, _++_}
+use mathlib.Core.List.{List, [], _∷_}
 use lib.ListN.{length, take}
 use Rattle.lines.specs.declared.scan.File.the-variants.{View}
 use Rattle.lines.specs.declared.scan.Scan.{Scan}
@@ -15,26 +15,25 @@ use Rattle.lines.specs.Nodes.{nodes, nodeAt}
 use Rattle.lines.specs.Nodes.{Node as Line}
 use Rattle.lines.specs.Entries.{Entry}
 use Rattle.lines.specs.Views.{sameLine, differenceFrom, firstDifference}
-use Rattle.lines.specs.Writing.{AllWritable, fileOf, putAt}
+use Rattle.lines.specs.Writing.{fileOf, putAt}
 use Rattle.values.specs.Words.{valueAt}
 use Rattle.values.specs.Theorems.Extents.{put-part}
 use Rattle.values.specs.Theorems.WordLaws.{length-value}
 use Rattle.lines.specs.Theorems.Reading.{reads-view}
-use Rattle.runs.specs.Results.{gives, _>>=_}
+use Rattle.runs.specs.Results.{gives}
 use Rattle.runs.specs.Programs.{Transformation}
 use Rattle.runs.specs.Reading.{readProgram}
 use Rattle.runs.specs.Showing.{Shown}
 use Rattle.runs.specs.Grounds.{oneMaster, showing, view}
-use Rattle.runs.specs.Runs.{madeBy}
-use Rattle.runs.specs.Trees.{Stands}
+use Rattle.runs.specs.Runs.{linesOf, madeBy}
 use Rattle.runs.specs.Theorems.Inversion.{gives-inj}
 use Rattle.runs.specs.Theorems.WholePrograms.{program-placed}
-use Rattle.calls.specs.Judging.{judgedView, judgedStandings}
-use Rattle.calls.specs.Outcomes.{outRoom, workRoom}
+use Rattle.calls.specs.Judging.{judgedView}
+use Rattle.calls.specs.Outcomes.{outRoom}
 use Rattle.calls.specs.declared.reply.Reply.{Reply}
 use Rattle.calls.specs.declared.reply.Step.{Step}
 use Rattle.calls.specs.declared.reply.Step.the-variants.{Goes, Refused}
-use Rattle.calls.specs.Parts.{Refuses, Settles, linesAt, viewLines, ViewRoom, WroteLines, ViewGoes, ViewJudged, Carriable, CarriedBack, Comparable, ComparedBack}
+use Rattle.calls.specs.Parts.{Refuses, viewLines, ViewRoom, WroteLines, ViewGoes, ViewJudged, Carriable, CarriedBack, Comparable, ComparedBack}
 use Rattle.calls.specs.Theorems.Judged.{ViewPassed, view-passed}
 use Rattle.calls.specs.Theorems.FreshLines.{length-view, fresh-scan, fresh-nodes, file-short}
 use Rattle.calls.specs.Theorems.Returned.{returned-writable}
@@ -52,6 +51,13 @@ same-count k (v ∷ vs) (f ∷ fs) h = ap suc (same-count (suc k) vs fs (go (sam
     go : (b : Bool) → cond b (differenceFrom (suc k) vs fs) (Fault k) ≡ Fine → differenceFrom (suc k) vs fs ≡ Fine
     go true q = q
     go false q = cc
+
+-- the step of a view judged beside the fresh one: its refusal, or what is carried into the master
+pub record Beside (E : List Entry) (ends : List ℕ) (L : List Line) (w out edited places : List ℕ) (step : Step) : Type 0 where
+  pub refuses : (r : Reply) → step ≡ Refused r → ComparedBack E L edited out out r
+  pub few : (v : ℕ) → step ≡ Goes v → v ≤ 128
+  pub carriable : (v : ℕ) → step ≡ Goes v → Carriable E ends L (linesOf edited (take (v - 0) places)) w out
+  pub settles : (v : ℕ) → step ≡ Goes v → (out′ : List ℕ) (r : Reply) → CarriedBack E L (linesOf edited (take (v - 0) places)) out out′ r → ComparedBack E L edited out out′ r
 
 module _ {E : List Entry} {ends : List ℕ} {L : List Line} {len : ℕ} {w out : List ℕ} (k : Comparable E ends L len w out) where
   abbrev fresh : List Line
@@ -101,32 +107,32 @@ module _ {E : List Entry} {ends : List ℕ} {L : List Line} {len : ℕ} {w out :
         pub few-scanned : m ≤ 128
         few-scanned = let a : Lines m ≡ Lines (length fresh) = sym e ∙ x .answer ∙ scan-is in let b : m ≡ length fresh = cc in let f = few-fresh in omega arith
 
-        scanned-lines : linesAt file (take (m - 0) noted) ≡ fresh
+        scanned-lines : linesOf file (take (m - 0) noted) ≡ fresh
         scanned-lines =
-            ap (λ (n : ℕ). linesAt file (take n noted)) (sub-zero m) ∙ sym (said-lines nodes nodeAt reads-view (scanned-whole x m e)) ∙ ap nodes file-is
+            ap (λ (n : ℕ). linesOf file (take n noted)) (sub-zero m) ∙ sym (said-lines nodes nodeAt reads-view (scanned-whole x m e)) ∙ ap nodes file-is
             ∙ fresh-nodes fresh (k .fresh-form)
 
         -- ## The view judged beside it
 
-        module _ (edited places : List ℕ) (t : Step) (judged : ViewJudged (linesAt file (take (m - 0) noted)) edited places t) where
-          pub view-refuses : (r : Reply) → t ≡ Refused r → ComparedBack E L edited out out r
+        module _ (edited places : List ℕ) (t : Step) (judged : ViewJudged (linesOf file (take (m - 0) noted)) edited places t) where
+          view-refuses : (r : Reply) → t ≡ Refused r → ComparedBack E L edited out out r
           view-refuses r q X read o shows =
               refused-settles _ out r (refused-first _ _ r
               (subst (λ (ls : List Line). Refuses (judgedView ls edited) r) (scanned-lines ∙ fresh-is X read o shows)
-              (subst (ViewJudged (linesAt file (take (m - 0) noted)) edited places) q judged)))
+              (subst (ViewJudged (linesOf file (take (m - 0) noted)) edited places) q judged)))
 
           module _ (v : ℕ) (q : t ≡ Goes v) where
             goes : ViewGoes fresh edited places v
-            goes = subst (λ (ls : List Line). ViewGoes ls edited places v) scanned-lines (subst (ViewJudged (linesAt file (take (m - 0) noted)) edited places) q judged)
+            goes = subst (λ (ls : List Line). ViewGoes ls edited places v) scanned-lines (subst (ViewJudged (linesOf file (take (m - 0) noted)) edited places) q judged)
 
-            pub few-edited : v ≤ 128
+            few-edited : v ≤ 128
             few-edited = goes .few
 
             abbrev es : List Line
-            es = linesAt edited (take (v - 0) places)
+            es = linesOf edited (take (v - 0) places)
 
             edited-are : nodes edited ≡ es
-            edited-are = goes .lines ∙ ap (λ (n : ℕ). linesAt edited (take n places)) (sym (sub-zero v))
+            edited-are = goes .lines ∙ ap (λ (n : ℕ). linesOf edited (take n places)) (sym (sub-zero v))
 
             passed : ViewPassed fresh edited es
             passed = subst (ViewPassed fresh edited) edited-are (view-passed fresh edited (nodes edited) (goes .judged))
@@ -135,7 +141,7 @@ module _ {E : List Entry} {ends : List ℕ} {L : List Line} {len : ℕ} {w out :
             unfolding firstDifference
             as-many = same-count 0 es fresh (passed .same)
 
-            pub carriable : Carriable E ends L es w out
+            carriable : Carriable E ends L es w out
             carriable =
                 record {
                   runnable = k .runnable;
@@ -156,7 +162,10 @@ module _ {E : List Entry} {ends : List ℕ} {L : List Line} {len : ℕ} {w out :
                       file-short ls (r .form) (omega arith);
                 }
 
-            pub carried-compares : (out′ : List ℕ) (r : Reply) → CarriedBack E L es out out′ r → ComparedBack E L edited out out′ r
+            carried-compares : (out′ : List ℕ) (r : Reply) → CarriedBack E L es out out′ r → ComparedBack E L edited out out′ r
             carried-compares out′ r h X read o shows =
                 passed-settles _ _ es
                 (subst (λ (ls : List Line). judgedView ls edited ≡ gives es) (fresh-is X read o shows) (goes .judged ∙ ap gives edited-are)) out out′ r (h X read)
+
+          pub judged-beside : Beside E ends L w out edited places t
+          judged-beside = record { refuses = view-refuses; few = few-edited; carriable = carriable; settles = carried-compares }

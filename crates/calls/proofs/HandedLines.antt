@@ -1,6 +1,6 @@
 -- A master's line as it is handed back: its head and its text by the word of its standing; and the lines of a master, one by one.
 use mathlib.Core.Path.{_≡_, refl, sym, _∙_, ap, ap₂}
-use mathlib.Core.List.{List, [], _∷_, map}
+use mathlib.Core.List.{List, [], _∷_}
 use Prim.Native.Nat.{ℕ, zero, suc, _+_, _-_, _≤_, _<_}
 use native.Mathlib.Nat.{not-suc-le-zero, le-of-suc-le-suc}
 use native.Mathlib.Omega.{arith}
@@ -16,6 +16,7 @@ use Rattle.values.specs.Words.{part, standingOf, standingsAt}
 use Rattle.values.specs.Theorems.Extents.{length-part, getD-part}
 use Rattle.values.specs.Theorems.WordLaws.{length-standings}
 use Rattle.runs.specs.Grounds.{noLine}
+use Rattle.runs.specs.Runs.{linesOf}
 use Rattle.calls.specs.Parts.{markLeft, handedOver, textsOf, handedLines, HandingRoom}
 use Rattle.calls.proofs.LinesAt.{line-at, no-line-at, text-at}
 use Rattle.calls.proofs.WritingLines.{Fitting}
@@ -63,10 +64,10 @@ module _ (texts : ℕ → List ℕ) (l : Line) where
 
 -- the text of a view line, and none where there is none
 module _ (s starts : List ℕ) (j : ℕ) where
-  pub view-text : {r : ℕ} → j < length starts → r ≡ getD starts j 0 + 10 → textAt s r ≡ textsOf (map (nodeAt s) starts) j
+  pub view-text : {r : ℕ} → j < length starts → r ≡ getD starts j 0 + 10 → textAt s r ≡ textsOf (linesOf s starts) j
   view-text h e = text-at s (getD starts j 0) e ∙ sym (ap (λ (l : Line). l .text) (line-at (nodeAt s) starts j noLine h))
 
-  pub view-no-text : length starts ≤ j → [] ≡ textsOf (map (nodeAt s) starts) j
+  pub view-no-text : length starts ≤ j → [] ≡ textsOf (linesOf s starts) j
   view-no-text h = sym (ap (λ (l : Line). l .text) (no-line-at (nodeAt s) starts j noLine h))
 
 -- ## The lines of a master
@@ -84,14 +85,14 @@ handed-at (l ∷ L) [] i h g = absurd (not-suc-le-zero g)
 handed-at (l ∷ L) (s ∷ ss) zero h g = refl
 handed-at (l ∷ L) (s ∷ ss) (suc i) h g = handed-at L ss i (le-of-suc-le-suc h) (le-of-suc-le-suc g)
 
-module _ (s starts : List ℕ) {es : List Line} {w out : List ℕ} (r : HandingRoom (map (nodeAt s) starts) es w out) where
+module _ (s starts : List ℕ) {es : List Line} {w out : List ℕ} (r : HandingRoom (linesOf s starts) es w out) where
   abbrev L : List Line
-  L = map (nodeAt s) starts
+  L = linesOf s starts
 
   many : length L ≡ length starts
   many = length-map starts (nodeAt s)
 
-  pub master-fits : Fitting (handedLines (map (nodeAt s) starts) es w) out (length starts)
+  pub master-fits : Fitting (handedLines (linesOf s starts) es w) out (length starts)
   master-fits = record { all = handed-long L _ ∙ many; room = r .room }
 
   standing-at : (i : ℕ) → i < length L → getD (standingsAt (textsOf es) w 256 (length L)) i untouched ≡ standingOf (textsOf es) (getD w (256 + i) 0)
@@ -102,7 +103,7 @@ module _ (s starts : List ℕ) {es : List Line} {w out : List ℕ} (r : HandingR
 
   -- a line a node
   pub master-at : (i : ℕ) → i < length starts
-      → getD (handedLines (map (nodeAt s) starts) es w) i noLine ≡ handsBack (nodeAt s (getD starts i 0)) (standingOf (textsOf es) (getD w (256 + i) 0))
+      → getD (handedLines (linesOf s starts) es w) i noLine ≡ handsBack (nodeAt s (getD starts i 0)) (standingOf (textsOf es) (getD w (256 + i) 0))
   master-at i h =
       let inL : i < length L = omega (arith, many) in
       handed-at L (standingsAt (textsOf es) w 256 (length L)) i inL (omega (arith, length-standings (textsOf es) w 256 (length L) (r .inside)))

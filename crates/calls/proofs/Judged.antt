@@ -5,7 +5,7 @@ use mathlib.Core.Path.{_≡_, refl, sym, ap, _∙_}
 use mathlib.Core.Bool.{Bool, true, false, cond, _&&_}
 use mathlib.Core.List.{List, _++_}
 use lib.Dec.{leb}
-use lib.ListN.{length, take, drop, replicate, length-replicate}
+use lib.ListN.{length, drop, replicate, length-replicate}
 use borrow.Author.Tests.{le-leb, lt-leb}
 use Rattle.lines.specs.Nodes.{Node as Line}
 use Rattle.lines.specs.Writing.{putAt}
@@ -35,7 +35,9 @@ short-work j out work r e h = rw e (go (leb outRoom (length out)))
 -- what stands behind the n first places decides
 zeros-before : (n : ℕ) (left work : List ℕ) → drop n left ≡ drop n work → putAt left 0 (replicate n 0) ≡ putAt work 0 (replicate n 0)
 unfolding putAt
-zeros-before n left work h = ap (λ (k : ℕ). replicate {A = ℕ} n 0 ++ drop k left) e ∙ ap (λ (t : List ℕ). replicate {A = ℕ} n 0 ++ t) h ∙ ap (λ (k : ℕ). replicate {A = ℕ} n 0 ++ drop k work) (sym e)
+zeros-before n left work h =
+    ap (λ (k : ℕ). replicate {A = ℕ} n 0 ++ drop k left) e ∙ ap (λ (t : List ℕ). replicate {A = ℕ} n 0 ++ t) h
+    ∙ ap (λ (k : ℕ). replicate {A = ℕ} n 0 ++ drop k work) (sym e)
   where
     e : 0 + length (replicate {A = ℕ} n 0) ≡ n
     e = let q = length-replicate {A = ℕ} n 0 in omega arith

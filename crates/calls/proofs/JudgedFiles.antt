@@ -22,10 +22,10 @@ use Rattle.runs.specs.declared.tree.Checked.{Checked}
 use Rattle.runs.specs.declared.tree.Checked.the-variants as checked
 use Rattle.runs.specs.Results.{Result, gives, stops}
 use Rattle.runs.specs.Reading.{readProgram, faultOf}
-use Rattle.runs.specs.Runs.{Ended}
+use Rattle.runs.specs.Runs.{entriesOf, linesOf, Ended}
 use Rattle.runs.specs.Checking.{Sized, CheckedWhole}
 use Rattle.calls.specs.Judging.{formed, keeps, isTree, masterRule, judgedMaster, judgedProgram}
-use Rattle.calls.specs.Parts.{linesAt, entriesAt, MasterGoes, ProgramGoes}
+use Rattle.calls.specs.Parts.{MasterGoes, ProgramGoes}
 use Rattle.calls.proofs.Places.{scanned-whole, said-lines, master-below, fault-below}
 
 -- ## The master
@@ -35,7 +35,7 @@ unfolding judgedMaster formed
 master-misformed putting s line e = rw e
 
 module _ (putting : Bool) {s before noted : List ℕ} {r : Scan} (x : Scanned Master s before noted r) (n : ℕ) (e : r ≡ Lines n) where
-  master-lines : nodes s ≡ linesAt s (take n noted)
+  master-lines : nodes s ≡ linesOf s (take n noted)
   master-lines = said-lines nodes nodeAt reads-master (scanned-whole x n e)
 
   master-scans : scan Master s ≡ Lines n
@@ -46,7 +46,7 @@ module _ (putting : Bool) {s before noted : List ℕ} {r : Scan} (x : Scanned Ma
   master-few = scanned-whole x n e .few
 
   -- the rules judge the part of the places from 0 to n
-  module _ {v : Verdict} (rule : v ≡ masterRule putting (linesAt s (take (n - 0) noted))) where
+  module _ {v : Verdict} (rule : v ≡ masterRule putting (linesOf s (take (n - 0) noted))) where
     rule-read : masterRule putting (nodes s) ≡ v
     rule-read = rw (master-lines, ← sub-zero n) (sym rule)
 
@@ -88,7 +88,7 @@ fine-gives (gives x) e = (x, refl)
 fine-gives (stops p) e = absurd (let z : _≡_ {A = ℕ} 0 1 = cc in omega arith)
 
 module _ {s before noted : List ℕ} {r : Scan} (x : Scanned Program s before noted r) (n : ℕ) (e : r ≡ Lines n) where
-  program-lines : entries s ≡ entriesAt s (take n noted)
+  program-lines : entries s ≡ entriesOf s (take n noted)
   program-lines = said-lines entries entryAt reads-program (scanned-whole x n e)
 
   program-scans : scan Program s ≡ Lines n
@@ -102,28 +102,28 @@ module _ {s before noted : List ℕ} {r : Scan} (x : Scanned Program s before no
   program-sized h long = rw (sub-zero n) (record { few = omega (arith, length-take-le n noted h, program-few); long = long })
 
   -- the tree check judges the part of the places from 0 to n
-  module _ {ends : List ℕ} {a : Checked} (whole : CheckedWhole (entriesAt s (take (n - 0) noted)) ends a) where
+  module _ {ends : List ℕ} {a : Checked} (whole : CheckedWhole (entriesOf s (take (n - 0) noted)) ends a) where
     -- what it says of the answer b
-    answered : (b : Checked) → a ≡ b → CheckedWhole (entriesAt s (take n noted)) ends b
+    answered : (b : Checked) → a ≡ b → CheckedWhole (entriesOf s (take n noted)) ends b
     answered b f = rw (sub-zero n, f) at whole
 
     pub program-faulty : (place : ℕ) → a ≡ checked.Fault place → judgedProgram s ≡ stops (reply 3 place)
     unfolding judgedProgram formed isTree
     program-faulty place f =
         let w = answered (checked.Fault place) f in
-        rw (program-scans, program-lines, fault-stops (readProgram (entriesAt s (take n noted))) place (w .verdict))
+        rw (program-scans, program-lines, fault-stops (readProgram (entriesOf s (take n noted))) place (w .verdict))
 
     pub program-goes : n ≤ length noted → (next : ℕ) → a ≡ checked.Next next → ProgramGoes s noted ends n
     unfolding judgedProgram formed isTree
     program-goes h next f =
         let w = answered (checked.Next next) f in
-        let g = fine-gives (readProgram (entriesAt s (take n noted))) (w .verdict) in
+        let g = fine-gives (readProgram (entriesOf s (take n noted))) (w .verdict) in
         let reads : readProgram (entries s) ≡ gives (g .0) = ap readProgram program-lines ∙ g .1 in
         let all : next ≡ n = w .ended .0 ∙ length-map (take n noted) (entryAt s) ∙ length-take-le n noted h in
         record {
           few = program-few;
           lines = program-lines;
-          ended = rw program-lines (subst (λ (k : ℕ). Ended (entriesAt s (take n noted)) (take k ends)) all (w .ended .1));
+          ended = rw program-lines (subst (λ (k : ℕ). Ended (entriesOf s (take n noted)) (take k ends)) all (w .ended .1));
           tree = g .0;
           read = reads;
           judged = rw (program-scans, reads);

@@ -71,7 +71,8 @@ unfolding boundsFrom
 bounds-below most k [] = tt
 bounds-below most k (l ∷ ls) =
     either-below (k + suc (length ls)) (placed most k l) (boundsFrom (depthAfter l) (suc k) ls) (Fault k)
-    (subst (λ (n : ℕ). Below n (boundsFrom (depthAfter l) (suc k) ls)) (let e : suc k + length ls ≡ k + suc (length ls) = omega arith in e) (bounds-below (depthAfter l) (suc k) ls))
+    (subst (λ (n : ℕ). Below n (boundsFrom (depthAfter l) (suc k) ls)) (let e : suc k + length ls ≡ k + suc (length ls) = omega arith in e)
+    (bounds-below (depthAfter l) (suc k) ls))
     (omega arith)
 
 earlier-below : (n : ℕ) (v u : Verdict) → Below n v → Below n u → Below n (earlier v u)

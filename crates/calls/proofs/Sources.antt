@@ -1,6 +1,6 @@
 -- The source's words one by one, and what the run over them leaves.
 use mathlib.Core.Path.{_≡_, refl, sym, ap, ap₂, subst, _∙_}
-use mathlib.Core.List.{List, [], _∷_, map}
+use mathlib.Core.List.{List, [], _∷_}
 use Prim.Native.Nat.{ℕ, zero, suc, _+_, _*_, _≤_, _<_}
 use native.Mathlib.Nat.{zero-add}
 use native.Mathlib.Omega.{arith}
@@ -13,7 +13,7 @@ use Rattle.lines.specs.Theorems.Lists.{getD-any}
 use Rattle.values.specs.Words.{part, valueAt}
 use Rattle.values.specs.Theorems.Extents.{frame-part, put-part}
 use Rattle.runs.specs.declared.slots.Slots.{Slots as SlotWords}
-use Rattle.runs.specs.declared.stop.Extent.{Extent}
+use Rattle.values.specs.declared.extents.Extent.{Extent}
 use Rattle.runs.specs.declared.stop.Stop.{Stop}
 use Rattle.runs.specs.declared.stop.Run.{Run}
 use Rattle.runs.specs.declared.stop.Run.the-variants as answered
@@ -23,7 +23,7 @@ use Rattle.runs.specs.Reading.{readProgram}
 use Rattle.runs.specs.Showing.{show}
 use Rattle.runs.specs.Grounds.{noLine, oneMaster, showing}
 use Rattle.runs.specs.SlotWords.{noSlots}
-use Rattle.runs.specs.Runs.{madeBy, lookupOf, slotsAt, Space, ShownBy}
+use Rattle.runs.specs.Runs.{linesOf, madeBy, lookupOf, slotsAt, Space, ShownBy}
 use Rattle.runs.specs.Theorems.WholePrograms.{program-placed}
 use Rattle.lines.specs.Verdicts.{reply}
 use Rattle.values.proofs.Loops.{Putting, putting-goes-on}
@@ -46,29 +46,29 @@ source-at k [] j h = absurd (omega arith)
 source-at k (l ∷ ls) zero h = ap (λ (x : ℕ). l .depth * 0x10000 + x) (let e : k ≡ k + 0 = omega arith in e)
 source-at k (l ∷ ls) (suc j) h = source-at (suc k) ls j (omega arith) ∙ ap (λ (x : ℕ). (getD ls j noLine) .depth * 0x10000 + x) (let e : suc k + j ≡ k + suc j = omega arith in e)
 
-pub words-long : (s starts : List ℕ) → length (sourceWords 0 (map (nodeAt s) starts)) ≡ length starts
-words-long s starts = length-source 0 (map (nodeAt s) starts) ∙ length-map starts (nodeAt s)
+pub words-long : (s starts : List ℕ) → length (sourceWords 0 (linesOf s starts)) ≡ length starts
+words-long s starts = length-source 0 (linesOf s starts) ∙ length-map starts (nodeAt s)
 
 module _ (s starts w₀ : List ℕ) (fits : length starts ≤ length w₀) where
   abbrev words : List ℕ
-  words = sourceWords 0 (map (nodeAt s) starts)
+  words = sourceWords 0 (linesOf s starts)
 
   -- the next node's word
   pub loading-goes-on : {w : List ℕ} {i depth : ℕ} → Putting w₀ 0 words (length starts) w i → i < length starts → depth ≡ (nodeAt s (getD starts i 0)) .depth
       → Putting w₀ 0 words (length starts) (set w i (depth * 0x10000 + i)) (i + 1)
   loading-goes-on {w} {i} {depth} p h d =
       let many = length-map starts (nodeAt s) in
-      let here : getD (map (nodeAt s) starts) i noLine ≡ nodeAt s (getD starts i 0) =
-      getD-any (map (nodeAt s) starts) i noLine (nodeAt s 0) (omega arith) ∙ List·getD-map (nodeAt s) starts i 0 in
+      let here : getD (linesOf s starts) i noLine ≡ nodeAt s (getD starts i 0) =
+      getD-any (linesOf s starts) i noLine (nodeAt s 0) (omega arith) ∙ List·getD-map (nodeAt s) starts i 0 in
       let word : depth * 0x10000 + i ≡ getD words i 0 =
-      ap₂ (λ (x y : ℕ). x * 0x10000 + y) (d ∙ ap (λ (l : Line). l .depth) (sym here)) (sym (zero-add i)) ∙ sym (source-at 0 (map (nodeAt s) starts) i (omega arith)) in
+      ap₂ (λ (x y : ℕ). x * 0x10000 + y) (d ∙ ap (λ (l : Line). l .depth) (sym here)) (sym (zero-add i)) ∙ sym (source-at 0 (linesOf s starts) i (omega arith)) in
       subst (λ (k : ℕ). Putting w₀ 0 words (length starts) (set w k (depth * 0x10000 + i)) (i + 1)) (zero-add i)
       (putting-goes-on w₀ 0 words (length starts) (words-long s starts) (omega arith) p h word)
 
 -- ## The run
 
 pub run-space : (w : List ℕ) (len : ℕ) → len ≤ 128 → workRoom ≤ length w → Space w noSlots 0 len 128 12
-run-space w len short room = record { below = omega arith; short = short; enough = omega arith; bound = no-slots-bound 128 }
+run-space w len short room = record { below = omega arith; short = short; enough = omega arith; low = omega arith; bound = no-slots-bound 128 }
 
 pub loaded-foot : (w : List ℕ) (L : List Line) → length L ≤ length w → {w₁ : List ℕ} → w₁ ≡ putAt w 0 (sourceWords 0 L) → part w₁ 0 (length L) ≡ sourceWords 0 L
 loaded-foot w L h e =

@@ -3,37 +3,37 @@ use Prim.Native.Nat.{ℕ, _-_, _≤_}
 use native.Mathlib.Nat.{sub-zero}
 use native.Mathlib.Omega.{arith}
 use mathlib.Core.Path.{_≡_, refl, sym, ap, subst, _∙_}
-use mathlib.Core.Bool.{Bool, true, false}
+use mathlib.Core.Bool.{Bool, true}
 use mathlib.Core.List.{List, [], _∷_}
 use lib.ListN.{length, take, length-map, length-take}
 use Rattle.lines.specs.Nodes.{nodes}
 use Rattle.lines.specs.Nodes.{Node as Line}
 use Rattle.lines.specs.Entries.{Entry, entries, entryAt}
-use Rattle.lines.specs.Verdicts.{reply}
 use Rattle.lines.specs.Masters.{masterBounds}
 use Rattle.lines.specs.declared.verdict.Verdict.the-variants.{Fine}
-use Rattle.lines.specs.Writing.{AllWritable, fileOf, putAt}
+use Rattle.lines.specs.Writing.{AllWritable, fileOf}
 use borrow.Author.Tests.{le-leb}
 use Rattle.values.specs.Values.{Value, mostNodes, mostDepth, shallow, withinBounds}
 use Rattle.values.specs.Theorems.Forests.{Shallow}
 use Rattle.runs.specs.Trees.{Stands}
 use Rattle.runs.specs.Theorems.WholePrograms.{program-placed}
 use Rattle.runs.specs.Theorems.Bounds.{master-shows-good}
-use Rattle.values.specs.Words.{part, valueAt}
-use Rattle.runs.specs.Results.{Result, gives, stops, _>>=_}
+use Rattle.values.specs.Words.{valueAt}
+use Rattle.runs.specs.Results.{gives, _>>=_}
 use Rattle.runs.specs.Programs.{Transformation}
 use Rattle.runs.specs.Reading.{readProgram}
 use Rattle.runs.specs.Showing.{Shown}
 use Rattle.runs.specs.Grounds.{oneMaster, showing, view}
-use Rattle.runs.specs.Runs.{Ended, madeBy}
+use Rattle.runs.specs.Runs.{entriesOf, linesOf, Ended, madeBy}
 use Rattle.calls.specs.Judging.{Judged, judgedProgram, judgedMaster, judgedView, judgedStandings, ran}
-use Rattle.calls.specs.Outcomes.{outcome, settled, outRoom, workRoom}
+use Rattle.calls.specs.Outcomes.{settled, outRoom, workRoom}
 use Rattle.calls.specs.declared.reply.Reply.{Reply}
 use Rattle.calls.specs.declared.reply.Step.{Step}
 use Rattle.calls.specs.declared.reply.Step.the-variants.{Goes, Refused}
 use Rattle.calls.specs.declared.reach.Reached.{Reached}
 use Rattle.calls.specs.declared.reach.Reached.the-variants as reached
-use Rattle.calls.specs.Parts.{replied, Refuses, Settles, entriesAt, linesAt, ProgramGoes, ProgramJudged, MasterGoes, MasterJudged, Runnable, RunGoes, RanBy, afterRun, RunReached, ReachedBy, WroteLines, viewLines, ViewRoom, Comparable, ComparedBack}
+use Rattle.calls.specs.Parts.{replied, Refuses, Settles, ProgramGoes, ProgramJudged, MasterGoes, MasterJudged}
+use Rattle.calls.specs.Parts.{Runnable, RunGoes, RanBy, afterRun, RunReached, ReachedBy, WroteLines, viewLines, ViewRoom, Comparable, ComparedBack}
 use Rattle.calls.specs.Theorems.Judged.{MasterPassed, master-passed}
 use Rattle.calls.specs.Theorems.FreshLines.{fresh-writable, fresh-few, length-view, file-short}
 
@@ -52,7 +52,8 @@ pub refused-settles : (j : Judged (List Line)) (out : List ℕ) (r : Reply) → 
 unfolding settled
 refused-settles j out r h work = rw (h .0, h .1) refl
 
-pub passed-settles : {A : Type 0} (f : A → Judged (List Line)) (j : Judged A) (a : A) → j ≡ gives a → (out out′ : List ℕ) (r : Reply) → Settles (f a) out out′ r → Settles (j >>= f) out out′ r
+pub passed-settles : {A : Type 0} (f : A → Judged (List Line)) (j : Judged A) (a : A) → j ≡ gives a → (out out′ : List ℕ) (r : Reply)
+    → Settles (f a) out out′ r → Settles (j >>= f) out out′ r
 passed-settles f j a e out out′ r h work = rw e (h work)
 
 -- the lines are the answer
@@ -105,16 +106,16 @@ within v a b = rw (le-leb (length v) mostNodes a, low v b) refl
 
 module _ {program starts ends master places : List ℕ} {putting : Bool} {e n : ℕ} (p : ProgramGoes program starts ends e) (m : MasterGoes putting master places n) where
   abbrev E : List Entry
-  E = entriesAt program (take (e - 0) starts)
+  E = entriesOf program (take (e - 0) starts)
 
   abbrev L : List Line
-  L = linesAt master (take (n - 0) places)
+  L = linesOf master (take (n - 0) places)
 
   entries-are : entries program ≡ E
-  entries-are = p .lines ∙ ap (λ (k : ℕ). entriesAt program (take k starts)) (sym (sub-zero e))
+  entries-are = p .lines ∙ ap (λ (k : ℕ). entriesOf program (take k starts)) (sym (sub-zero e))
 
   lines-are : nodes master ≡ L
-  lines-are = m .lines ∙ ap (λ (k : ℕ). linesAt master (take k places)) (sym (sub-zero n))
+  lines-are = m .lines ∙ ap (λ (k : ℕ). linesOf master (take k places)) (sym (sub-zero n))
 
   passed : MasterPassed putting master (nodes master)
   passed = master-passed putting master (nodes master) (m .judged)
@@ -148,7 +149,8 @@ module _ {program starts ends master places : List ℕ} {putting : Bool} {e n : 
   bounds = subst (λ (ls : List Line). masterBounds ls ≡ Fine) lines-are (passed .bounds)
 
   -- the run is judged on the lines as the code has them
-  ran-here : (rest : Transformation → List Line → Shown → Judged (List Line)) → afterRun putting master program rest ≡ (ran (showing (oneMaster L) (p .tree)) >>= (λ o. rest (p .tree) L o))
+  ran-here : (rest : Transformation → List Line → Shown → Judged (List Line))
+      → afterRun putting master program rest ≡ (ran (showing (oneMaster L) (p .tree)) >>= (λ o. rest (p .tree) L o))
   ran-here rest = rw (p .judged, m .judged, lines-are) refl
 
   pub stopped-reaches : (r : Reply) → ((X : Transformation) → readProgram E ≡ gives X → Refuses (ran (showing (oneMaster L) X)) r)
@@ -175,7 +177,9 @@ module _ {program starts ends master places : List ℕ} {putting : Bool} {e n : 
     shown-value = g .shows (p .tree) (length E) stands .2
 
     pub shown-within : withinBounds (valueAt (madeBy E) w 128 len) ≡ true
-    shown-within = let good = master-shows-good L few-lines bounds (p .tree) o shows in subst (λ v. withinBounds v ≡ true) (sym shown-value) (within (o .value) (good .few) (good .low))
+    shown-within =
+        let good = master-shows-good L few-lines bounds (p .tree) o shows in
+        subst (λ v. withinBounds v ≡ true) (sym shown-value) (within (o .value) (good .few) (good .low))
 
     pub fresh-form : AllWritable (viewLines E L w len)
     fresh-form =

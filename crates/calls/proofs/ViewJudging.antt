@@ -19,9 +19,10 @@ use Rattle.lines.specs.Verdicts.{reply, firstFrom}
 use Rattle.lines.specs.Views.{sameLine, differenceFrom, firstDifference, programMarked, programMark}
 use Rattle.lines.specs.Theorems.Reading.{reads-view, scan-count}
 use Rattle.lines.specs.Theorems.RoundTrip.{nodes-writable, view-of-nodes}
-use Rattle.runs.specs.Results.{gives, stops}
+use Rattle.runs.specs.Results.{stops}
+use Rattle.runs.specs.Runs.{linesOf}
 use Rattle.calls.specs.Judging.{formed, keeps, judgedView}
-use Rattle.calls.specs.Parts.{linesAt, ViewGoes}
+use Rattle.calls.specs.Parts.{ViewGoes}
 use Rattle.calls.proofs.Places.{scanned-whole, said-lines}
 
 -- ## Places
@@ -49,14 +50,25 @@ difference-inside k (v ∷ vs) (f ∷ fs) line e = go (sameLine v f) e (differen
     go true h ih = let z = ih h in omega arith
     go false h ih = let z : k ≡ line = cc in omega arith
 
--- ## Ends
+-- ## Answers
+
+-- what the comparison with the fresh lines answered
+pub record Differs (fresh : List Line) (s : List ℕ) (v : Verdict) : Type 0 where
+  pub place : (line : ℕ) → v ≡ Fault line → line < 0x10000
+  pub judged : (line : ℕ) → v ≡ Fault line → judgedView fresh s ≡ stops (reply 9 line)
+
+-- what the search for the program's marks answered
+pub record Marked (fresh : List Line) (s noted : List ℕ) (n : ℕ) (u : Verdict) : Type 0 where
+  pub place : (line : ℕ) → u ≡ Fault line → line < 0x10000
+  pub judged : (line : ℕ) → u ≡ Fault line → judgedView fresh s ≡ stops (reply 10 line)
+  pub goes : u ≡ Fine → ViewGoes fresh s noted n
 
 pub view-misformed : (fresh : List Line) (s : List ℕ) (line : ℕ) → scan View s ≡ Wrong line → judgedView fresh s ≡ stops (reply 8 line)
 unfolding judgedView formed
 view-misformed fresh s line e = rw e
 
 module _ {s before noted : List ℕ} {r : Scan} (x : Scanned View s before noted r) (n : ℕ) (e : r ≡ Lines n) where
-  view-lines : nodes s ≡ linesAt s (take n noted)
+  view-lines : nodes s ≡ linesOf s (take n noted)
   view-lines = said-lines nodes nodeAt reads-view (scanned-whole x n e)
 
   view-scans : scan View s ≡ Lines n
@@ -67,42 +79,45 @@ module _ {s before noted : List ℕ} {r : Scan} (x : Scanned View s before noted
   view-few = scanned-whole x n e .few
 
   -- the part of the notes that the code hands on
-  part-lines : nodes s ≡ linesAt s (take (n - 0) noted)
-  part-lines = view-lines ∙ ap (λ (k : ℕ). linesAt s (take k noted)) (let e : n ≡ n - 0 = omega arith in e)
+  part-lines : nodes s ≡ linesOf s (take (n - 0) noted)
+  part-lines = view-lines ∙ ap (λ (k : ℕ). linesOf s (take k noted)) (let e : n ≡ n - 0 = omega arith in e)
 
-  part-few : length (linesAt s (take (n - 0) noted)) ≤ 128
+  part-few : length (linesOf s (take (n - 0) noted)) ≤ 128
   unfolding nodes
   part-few = omega (arith, ap length part-lines, length-map (cut s) (λ c. nodeOf (decode c)), scan-count View s n view-scans, view-few)
 
-  module _ (fresh : List Line) {v : Verdict} (compared : v ≡ firstDifference (linesAt s (take (n - 0) noted)) fresh) where
+  module _ (fresh : List Line) {v : Verdict} (compared : v ≡ firstDifference (linesOf s (take (n - 0) noted)) fresh) where
     difference-read : firstDifference (nodes s) fresh ≡ v
     difference-read = ap (λ (ls : List Line). firstDifference ls fresh) part-lines ∙ sym compared
 
-    pub view-differs : (line : ℕ) → v ≡ Fault line → judgedView fresh s ≡ stops (reply 9 line)
+    view-differs : (line : ℕ) → v ≡ Fault line → judgedView fresh s ≡ stops (reply 9 line)
     unfolding judgedView formed keeps
     view-differs line f = rw (view-scans, difference-read ∙ f)
 
-    pub difference-place : (line : ℕ) → v ≡ Fault line → line < 0x10000
+    difference-place : (line : ℕ) → v ≡ Fault line → line < 0x10000
     unfolding firstDifference
     difference-place line f =
-        let p = difference-inside 0 (linesAt s (take (n - 0) noted)) fresh line (sym compared ∙ f) in
+        let p = difference-inside 0 (linesOf s (take (n - 0) noted)) fresh line (sym compared ∙ f) in
         omega (arith, p, part-few)
 
-    module _ (same : v ≡ Fine) {u : Verdict} (marks : u ≡ programMark (linesAt s (take (n - 0) noted))) where
+    pub differs : Differs fresh s v
+    differs = record { place = difference-place; judged = view-differs }
+
+    module _ (same : v ≡ Fine) {u : Verdict} (marks : u ≡ programMark (linesOf s (take (n - 0) noted))) where
       mark-read : programMark (nodes s) ≡ u
       mark-read = ap programMark part-lines ∙ sym marks
 
-      pub view-marked : (line : ℕ) → u ≡ Fault line → judgedView fresh s ≡ stops (reply 10 line)
+      view-marked : (line : ℕ) → u ≡ Fault line → judgedView fresh s ≡ stops (reply 10 line)
       unfolding judgedView formed keeps
       view-marked line f = rw (view-scans, difference-read ∙ same, mark-read ∙ f)
 
-      pub mark-place : (line : ℕ) → u ≡ Fault line → line < 0x10000
+      mark-place : (line : ℕ) → u ≡ Fault line → line < 0x10000
       unfolding programMark
       mark-place line f =
-          let p = first-inside programMarked 0 (linesAt s (take (n - 0) noted)) line (sym marks ∙ f) in
+          let p = first-inside programMarked 0 (linesOf s (take (n - 0) noted)) line (sym marks ∙ f) in
           omega (arith, p, part-few)
 
-      pub view-goes : u ≡ Fine → ViewGoes fresh s noted n
+      view-goes : u ≡ Fine → ViewGoes fresh s noted n
       unfolding judgedView formed keeps
       view-goes f =
           record {
@@ -111,3 +126,6 @@ module _ {s before noted : List ℕ} {r : Scan} (x : Scanned View s before noted
             form = nodes-writable View view-of-nodes s n view-scans;
             judged = rw (view-scans, difference-read ∙ same, mark-read ∙ f);
           }
+
+      pub marked : Marked fresh s noted n u
+      marked = record { place = mark-place; judged = view-marked; goes = view-goes }

@@ -15,6 +15,7 @@ use Rattle.lines.proofs.Masters.{nodes-one}
 use Rattle.lines.proofs.Views.{text-of}
 use Rattle.values.specs.Theorems.MergeLaws.{sameText-refl}
 use Rattle.runs.specs.Grounds.{noLine}
+use Rattle.runs.specs.Runs.{linesOf}
 use Rattle.calls.specs.Parts.{firstWith, broughtWord, broughtWords}
 
 -- what a list of readings has at a place
@@ -37,10 +38,10 @@ module _ (text : List ℕ) (k : ℕ) (l : Line) (ls : List Line) where
 -- the text of line i, looked for from line j on
 module _ (view lines : List ℕ) (i : ℕ) (inside : i < length lines) (j : ℕ) where
   abbrev text : List ℕ
-  text = (getD (map (nodeAt view) lines) i noLine) .text
+  text = (getD (linesOf view lines) i noLine) .text
 
   abbrev pub fromHere : ℕ
-  fromHere = firstWith text j (map (nodeAt view) (drop j lines))
+  fromHere = firstWith text j (linesOf view (drop j lines))
 
   own : nodeAt view (getD lines i 0) .text ≡ text
   own = ap (λ (l : Line). l .text) (sym (read-at (nodeAt view) lines i noLine inside))
@@ -55,7 +56,7 @@ module _ (view lines : List ℕ) (i : ℕ) (inside : i < length lines) (j : ℕ)
   found-here h p q e = rw (nodes-one (nodeAt view) lines j h) (with-here text j _ _ (sym (compared p q) ∙ e))
 
   pub found-later : {a b : ℕ} → j < length lines → a ≡ getD lines j 0 + 10 → b ≡ getD lines i 0 + 10 → sameText (textAt view a) (textAt view b) ≡ false
-      → fromHere ≡ firstWith text (j + 1) (map (nodeAt view) (drop (j + 1) lines))
+      → fromHere ≡ firstWith text (j + 1) (linesOf view (drop (j + 1) lines))
   found-later h p q e = rw (nodes-one (nodeAt view) lines j h) (with-later text j _ _ (sym (compared p q) ∙ e))
 
   -- at the latest, line i has it
@@ -68,7 +69,7 @@ module _ (view lines : List ℕ) (i : ℕ) (inside : i < length lines) (j : ℕ)
 
 -- the mark that the code reads
 pub mark-read : (view lines : List ℕ) (i : ℕ) → i < length lines → {m : ℕ} → m ≡ nodeAt view (getD lines i 0) .mark
-    → m ≡ (getD (map (nodeAt view) lines) i noLine) .mark
+    → m ≡ (getD (linesOf view lines) i noLine) .mark
 mark-read view lines i h e = e ∙ ap (λ (l : Line). l .mark) (sym (read-at (nodeAt view) lines i noLine h))
 
 module _ (es : List Line) (l : Line) where
@@ -95,9 +96,9 @@ mapped-at f (l ∷ es) zero h = refl
 mapped-at f (l ∷ es) (suc i) h = mapped-at f es i (le-of-suc-le-suc h)
 
 module _ (view lines : List ℕ) where
-  pub words-long : length (broughtWords (map (nodeAt view) lines)) ≡ length lines
-  words-long = length-brought (map (nodeAt view) lines) ∙ length-map lines (nodeAt view)
+  pub words-long : length (broughtWords (linesOf view lines)) ≡ length lines
+  words-long = length-brought (linesOf view lines) ∙ length-map lines (nodeAt view)
 
   pub word-at : (i : ℕ) → i < length lines
-      → getD (broughtWords (map (nodeAt view) lines)) i 0 ≡ broughtWord (map (nodeAt view) lines) (getD (map (nodeAt view) lines) i noLine)
-  word-at i h = mapped-at (broughtWord (map (nodeAt view) lines)) (map (nodeAt view) lines) i (omega (arith, length-map lines (nodeAt view)))
+      → getD (broughtWords (linesOf view lines)) i 0 ≡ broughtWord (linesOf view lines) (getD (linesOf view lines) i noLine)
+  word-at i h = mapped-at (broughtWord (linesOf view lines)) (linesOf view lines) i (omega (arith, length-map lines (nodeAt view)))

@@ -3,11 +3,11 @@ use mathlib.Core.Path.{_≡_, refl, sym, _∙_, ap}
 use mathlib.Core.Bool.{Bool, true, cond}
 use mathlib.Core.List.{List, [], _∷_, map}
 use Prim.Native.Nat.{ℕ, zero, suc, _+_, _/_, _%_, _≤_, _<_}
-use native.Mathlib.Nat.{zero-add, not-suc-le-zero, le-of-suc-le-suc}
+use native.Mathlib.Nat.{not-suc-le-zero, le-of-suc-le-suc}
 use native.Mathlib.Omega.{arith}
 use lib.Dec.{leb}
 use lib.ListN.{length, getD, length-map, List·getD-map}
-use borrow.Author.Tests.{lt-ltb, le-ltb, leb-true, eq-eqb, ne-eqb}
+use borrow.Author.Tests.{lt-ltb, le-ltb, leb-true}
 use Rattle.lines.specs.declared.write.Head.{Head}
 use Rattle.lines.specs.Entries.{Entry}
 use Rattle.lines.specs.Nodes.{untouchedMark, programNumber}
@@ -19,7 +19,7 @@ use Rattle.values.specs.Values.{Origin, master, program, Node, Value, elementOf
 use Rattle.values.specs.Words.{part, originOf, nodeOf, valueAt}
 use Rattle.values.specs.Theorems.Extents.{length-part, getD-part}
 use Rattle.values.specs.Theorems.WordLaws.{length-value}
-use Rattle.runs.specs.Grounds.{noLine, numberedFrom, lineOf, shownLine, view}
+use Rattle.runs.specs.Grounds.{noLine, numberedFrom, shownLine, view}
 use Rattle.runs.specs.Runs.{madeBy, lookupOf}
 use Rattle.calls.specs.Parts.{wordLine, viewLines, ViewRoom}
 use Rattle.calls.specs.Theorems.ShownNumbers.{line-of}

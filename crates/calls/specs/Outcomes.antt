@@ -5,7 +5,6 @@ use mathlib.Core.List.{List}
 use lib.Dec.{leb}
 use lib.ListN.{length, replicate}
 use Rattle.lines.specs.Nodes.{Node as Line}
-use Rattle.lines.specs.Verdicts.{Reply}
 use Rattle.lines.specs.Writing.{fileOf, putAt}
 use Rattle.runs.specs.Results.{gives, stops}
 use Rattle.calls.specs.Judging.{Judged, judgedShow, judgedPutBack}

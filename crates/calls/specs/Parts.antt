@@ -1,19 +1,19 @@
 -- What the parts of a call ask and promise. A reader of the calls' own contracts needs only Judging and Outcomes.
-use Prim.Native.Nat.{ℕ, suc, _+_, _*_, _-_, _≤_, _<_}
+use Prim.Native.Nat.{ℕ, suc, _+_, _*_, _-_, _≤_}
 use mathlib.Core.Path.{_≡_}
 use mathlib.Core.Bool.{Bool, true, cond}
 use mathlib.Core.List.{List, [], _∷_, map}
 use lib.Dec.{leb, eqb}
 use lib.ListN.{length, take, getD}
 use Rattle.lines.specs.Texts.{sameText}
-use Rattle.lines.specs.Nodes.{nodes, nodeAt, changedMark, deletedMark}
+use Rattle.lines.specs.Nodes.{nodes, changedMark, deletedMark}
 use Rattle.lines.specs.Nodes.{Node as Line}
-use Rattle.lines.specs.Entries.{Entry, entries, entryAt}
+use Rattle.lines.specs.Entries.{Entry, entries}
 use Rattle.lines.specs.Masters.{masterBounds}
 use Rattle.lines.specs.Verdicts.{reply}
 use Rattle.lines.specs.declared.verdict.Verdict.the-variants.{Fine}
 use Rattle.lines.specs.Writing.{AllWritable, fileOf, putAt}
-use Rattle.values.specs.Values.{Value, withinBounds}
+use Rattle.values.specs.Values.{withinBounds}
 use Rattle.values.specs.Standings.{Standing, handsBack, firstOf, restOf}
 use Rattle.values.specs.Words.{part, nodeOf, valueAt, standingsAt}
 use Rattle.runs.specs.Results.{gives, stops, _>>=_}
@@ -21,7 +21,7 @@ use Rattle.runs.specs.Programs.{Transformation}
 use Rattle.runs.specs.Reading.{readProgram}
 use Rattle.runs.specs.Showing.{Shown}
 use Rattle.runs.specs.Grounds.{noLine, numberedFrom, shownLine, oneMaster, showing, view}
-use Rattle.runs.specs.Runs.{Ended, madeBy}
+use Rattle.runs.specs.Runs.{entriesOf, linesOf, Ended, madeBy}
 use Rattle.runs.specs.Trees.{Stands}
 use Rattle.calls.specs.declared.reply.Reply.{Reply}
 use Rattle.calls.specs.declared.reply.Step.{Step}
@@ -29,7 +29,7 @@ use Rattle.calls.specs.declared.reply.Step.the-variants.{Goes, Refused}
 use Rattle.calls.specs.declared.reach.Reached.{Reached}
 use Rattle.calls.specs.declared.reach.Reached.the-variants as reached
 use Rattle.calls.specs.Judging.{Judged, masterRule, judgedProgram, judgedMaster, judgedView, judgedStandings, ran}
-use Rattle.calls.specs.Outcomes.{Outcome, outcome, settled, outRoom, workRoom}
+use Rattle.calls.specs.Outcomes.{outcome, settled, outRoom, workRoom}
 
 -- ## Answers
 
@@ -46,16 +46,10 @@ Settles judged out out′ r = (work : List ℕ) → outcome (r .number) (r .plac
 
 -- ## Files by the starts of their lines
 
-abbrev pub linesAt : List ℕ → List ℕ → List Line
-linesAt s starts = map (nodeAt s) starts
-
-abbrev pub entriesAt : List ℕ → List ℕ → List Entry
-entriesAt s starts = map (entryAt s) starts
-
 -- a sound program: its entries and their ends
 pub record ProgramGoes (program starts ends : List ℕ) (n : ℕ) : Type 0 where
   pub few : n ≤ 96
-  pub lines : entries program ≡ entriesAt program (take n starts)
+  pub lines : entries program ≡ entriesOf program (take n starts)
   pub ended : Ended (entries program) (take n ends)
   pub tree : Transformation
   pub read : readProgram (entries program) ≡ gives tree
@@ -68,7 +62,7 @@ ProgramJudged program starts ends (Refused r) = Refuses (judgedProgram program) 
 -- a sound master: its lines
 pub record MasterGoes (putting : Bool) (master starts : List ℕ) (n : ℕ) : Type 0 where
   pub few : n ≤ 128
-  pub lines : nodes master ≡ linesAt master (take n starts)
+  pub lines : nodes master ≡ linesOf master (take n starts)
   pub rule : masterRule putting (nodes master) ≡ Fine
   pub form : AllWritable (nodes master)
   pub judged : judgedMaster putting master ≡ gives (nodes master)
@@ -110,7 +104,7 @@ afterRun putting master program rest =
 pub record RunReached (putting : Bool) (master program starts ends places w : List ℕ) (e n len : ℕ) : Type 0 where
   pub of-program : ProgramGoes program starts ends e
   pub of-master : MasterGoes putting master places n
-  pub of-run : RunGoes (entriesAt program (take (e - 0) starts)) (linesAt master (take (n - 0) places)) w len
+  pub of-run : RunGoes (entriesOf program (take (e - 0) starts)) (linesOf master (take (n - 0) places)) w len
 
 abbrev pub ReachedBy : Bool → List ℕ → List ℕ → List ℕ → List ℕ → List ℕ → List ℕ → Reached → Type 0
 ReachedBy putting master program starts ends places w (reached.Shown e n len) = RunReached putting master program starts ends places w e n len
@@ -162,7 +156,7 @@ pub record HandingRoom (L es : List Line) (w out : List ℕ) : Type 0 where
 
 pub record ViewGoes (fresh : List Line) (edited starts : List ℕ) (n : ℕ) : Type 0 where
   pub few : n ≤ 128
-  pub lines : nodes edited ≡ linesAt edited (take n starts)
+  pub lines : nodes edited ≡ linesOf edited (take n starts)
   pub form : AllWritable (nodes edited)
   pub judged : judgedView fresh edited ≡ gives (nodes edited)
 

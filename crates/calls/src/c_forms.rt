@@ -1,6 +1,7 @@
 // The calls for hosts written in C: byte slices only, a work slice of their own, the answer in one number.
 use crate::put_back::put_back;
 use crate::reply::Reply;
+use crate::room::WORK_ROOM;
 use crate::show::show;
 ghost use mathlib.Core.Path.{_≡_};
 ghost use Prim.Native.Nat.{_+_, _*_};
@@ -16,7 +17,7 @@ fn in_one(reply: Reply) -> u64
 pub extern "C" fn meadcinder_show(master: &[u8], program: &[u8], out: &mut [u8]) -> u64
     ensures { λ r. ⌜ packed r (now (out .exit)) ≡ showInC (now (master .entry)) (now (program .entry)) (now (out .entry)) ⌝ }
 {
-    let mut work = [0u32; 16384];
+    let mut work = [0u32; WORK_ROOM];
     in_one(show(master, program, out, &mut work))
 }
 
@@ -29,6 +30,6 @@ pub extern "C" fn meadcinder_put_back(
 ) -> u64
     ensures { λ r. ⌜ packed r (now (out .exit)) ≡ putBackInC (now (master .entry)) (now (program .entry)) (now (view .entry)) (now (out .entry)) ⌝ }
 {
-    let mut work = [0u32; 16384];
+    let mut work = [0u32; WORK_ROOM];
     in_one(put_back(master, program, view, out, &mut work))
 }

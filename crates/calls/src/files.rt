@@ -1,5 +1,4 @@
 // The program and the master: replies 2 to 5.
-use crate::reply::Reply;
 use crate::reply::Step;
 use crate::reply::refuse;
 use lines::master::bounds;
@@ -12,10 +11,9 @@ use lines::verdict::earlier_of;
 use runs::tree::Checked;
 use runs::tree::check_program;
 ghost use mathlib.Core.Path.{_≡_};
-ghost use mathlib.Core.List.{map};
 ghost use Prim.Native.Nat.{_≤_};
 ghost use lib.ListN.{length};
-ghost use Rattle.lines.specs.Nodes.{nodeAt};
+ghost use Rattle.runs.specs.Runs.{linesOf};
 ghost use Rattle.calls.specs.Judging.{masterRule};
 ghost use Rattle.calls.specs.Parts.{ProgramJudged, MasterJudged};
 
@@ -39,7 +37,7 @@ pub fn judge_program(program: &[u8], entries: &mut [u16], ends: &mut [u8]) -> St
 
 // A mark is a fault only where the master is put back to.
 fn master_fault(master: &[u8], nodes: &[u16], putting: bool) -> Verdict
-    ensures { λ r. ⌜ r ≡ masterRule putting (map (nodeAt (now (master .entry))) (now (nodes .entry))) ⌝ }
+    ensures { λ r. ⌜ r ≡ masterRule putting (linesOf (now (master .entry)) (now (nodes .entry))) ⌝ }
 {
     let broken = bounds(master, nodes);
     if !putting {

@@ -1,11 +1,12 @@
 // The calls: showing a view and putting it back, on the bytes of files, with the twelve replies.
 pub mod c_forms;
 pub mod files;
-pub mod lines_out;
 pub mod put_back;
 pub mod reach;
 pub mod reply;
+pub mod room;
+pub mod run_program;
 pub mod show;
-pub mod source;
 pub mod view_in;
 pub mod view_out;
+pub mod write_master;

@@ -1,46 +1,49 @@
 // The call put back.
-use crate::lines_out::write_master;
 use crate::reach::Reached;
 use crate::reach::reach;
 use crate::reply::Reply;
 use crate::reply::Step;
 use crate::reply::done;
 use crate::reply::refuse;
-use crate::show::OUT_ROOM;
-use crate::show::WORK_ROOM;
+use crate::room::ENTRIES;
+use crate::room::HANDED;
+use crate::room::LINES;
+use crate::room::OUT_ROOM;
+use crate::room::SHOWN;
+use crate::room::WORK_ROOM;
 use crate::view_in::bring_view;
 use crate::view_in::judge_view;
 use crate::view_out::write_view;
+use crate::write_master::write_master;
 use lines::scan::File;
 use lines::scan::Scan;
 use lines::scan::scan_lines;
 use lines::verdict::Verdict;
+use runs::at::root;
+use runs::put::MARKS;
 use runs::put::put;
-use runs::slots::no_slots;
 use values::extents::fill;
 use values::standings::CLASH;
 ghost use mathlib.Core.Path.{_≡_};
-ghost use mathlib.Core.List.{List, map};
+ghost use mathlib.Core.List.{List};
 ghost use Prim.Native.Nat.{ℕ, _+_, _≤_};
 ghost use lib.ListN.{length};
-ghost use Rattle.lines.specs.Nodes.{nodeAt};
-ghost use Rattle.lines.specs.Entries.{entryAt};
 ghost use Rattle.lines.specs.Verdicts.{firstFrom};
 ghost use Rattle.values.specs.Standings.{isClash};
 ghost use Rattle.values.specs.Words.{standingsAt};
-ghost use Rattle.runs.specs.Grounds.{oneMaster};
-ghost use Rattle.calls.specs.Judging.{judgedPutBack, judgedStandings};
+ghost use Rattle.runs.specs.Runs.{entriesOf, linesOf};
+ghost use Rattle.calls.specs.Judging.{judgedPutBack};
 ghost use Rattle.calls.specs.Outcomes.{outRoom, workRoom, outcome, putBackCall};
 ghost use Rattle.calls.specs.Parts.{Settles, Carriable, CarriedBack, Comparable, ComparedBack};
 
-// The first clash among the standings at place 256.
+// The first clash among the standings at HANDED.
 fn first_clash(work: &[u32], len: usize) -> Verdict
     requires { ⌜ 256 + len ≤ length (now work) ⌝ }
     ensures { λ r. ⌜ ((texts : ℕ → List ℕ) → r ≡ firstFrom isClash 0 (standingsAt texts (now (work .entry)) 256 len)) ⌝ }
 {
     let mut k: usize = 0;
     while k < len {
-        if work[256 + k] == CLASH {
+        if work[HANDED + k] == CLASH {
             return Verdict::Fault(k);
         }
         k += 1;
@@ -48,7 +51,7 @@ fn first_clash(work: &[u32], len: usize) -> Verdict
     Verdict::Fine
 }
 
-// Reply 11, or the lines handed back: the source lies at place 0, the view's standings come to 128, the master's to 256.
+// Reply 11, or the lines handed back: the source lies at place 0, the view's standings come to SHOWN, the master's to HANDED.
 fn carry(
     program: &[u8],
     entries: &[u16],
@@ -60,28 +63,15 @@ fn carry(
     out: &mut [u8],
     work: &mut [u32],
 ) -> Reply
-    requires { ⌜ Carriable (map (entryAt (now program)) (now entries)) (now ends) (map (nodeAt (now master)) (now nodes)) (map (nodeAt (now view)) (now lines)) (now work) (now out) ⌝ }
-    ensures { λ r. ⌜ CarriedBack (map (entryAt (now (program .entry))) (now (entries .entry))) (map (nodeAt (now (master .entry))) (now (nodes .entry))) (map (nodeAt (now (view .entry))) (now (lines .entry))) (now (out .entry)) (now (out .exit)) r ⌝ }
+    requires { ⌜ Carriable (entriesOf (now program) (now entries)) (now ends) (linesOf (now master) (now nodes))
+        (linesOf (now view) (now lines)) (now work) (now out) ⌝ }
+    ensures { λ r. ⌜ CarriedBack (entriesOf (now (program .entry)) (now (entries .entry))) (linesOf (now (master .entry)) (now (nodes .entry)))
+        (linesOf (now (view .entry)) (now (lines .entry))) (now (out .entry)) (now (out .exit)) r ⌝ }
 {
     bring_view(view, lines, work);
-    let mut marks = [0u32; 512];
-    put(
-        program,
-        entries,
-        ends,
-        master,
-        nodes,
-        work,
-        &mut marks,
-        no_slots(),
-        0,
-        0,
-        nodes.len(),
-        128,
-        lines.len(),
-        256,
-        12,
-    );
+    let mut marks = [0u32; MARKS];
+    let at = root(nodes.len(), HANDED, SHOWN, lines.len());
+    put(program, entries, ends, master, nodes, work, &mut marks, at);
     let clash = first_clash(work, nodes.len());
     match clash {
         Verdict::Fault(k) => refuse(11, k),
@@ -101,17 +91,18 @@ fn compared(
     out: &mut [u8],
     work: &mut [u32],
 ) -> Reply
-    requires { ⌜ Comparable (map (entryAt (now program)) (now entries)) (now ends) (map (nodeAt (now master)) (now nodes)) len (now work) (now out) ⌝ }
-    ensures { λ r. ⌜ ComparedBack (map (entryAt (now (program .entry))) (now (entries .entry))) (map (nodeAt (now (master .entry))) (now (nodes .entry))) (now (view .entry)) (now (out .entry)) (now (out .exit)) r ⌝ }
+    requires { ⌜ Comparable (entriesOf (now program) (now entries)) (now ends) (linesOf (now master) (now nodes)) len (now work) (now out) ⌝ }
+    ensures { λ r. ⌜ ComparedBack (entriesOf (now (program .entry)) (now (entries .entry))) (linesOf (now (master .entry)) (now (nodes .entry)))
+        (now (view .entry)) (now (out .entry)) (now (out .exit)) r ⌝ }
 {
-    let mut fresh = [0u8; 9856];
+    let mut fresh = [0u8; OUT_ROOM];
     let end = write_view(program, entries, master, nodes, work, len, &mut fresh);
-    let mut fresh_lines = [0u16; 128];
+    let mut fresh_lines = [0u16; LINES];
     let scanned = scan_lines(File::View, &fresh[0..end], &mut fresh_lines);
     match scanned {
         Scan::Wrong(line) => refuse(8, line),
         Scan::Lines(m) => {
-            let mut lines = [0u16; 128];
+            let mut lines = [0u16; LINES];
             let view_step = judge_view(view, &mut lines, &fresh[0..end], &fresh_lines[0..m]);
             match view_step {
                 Step::Refused(reply) => reply,
@@ -142,9 +133,9 @@ fn judged_put_back(
     requires { ⌜ (outRoom ≤ length (now out)) × (workRoom ≤ length (now work)) ⌝ }
     ensures { λ r. ⌜ Settles (judgedPutBack (now (master .entry)) (now (program .entry)) (now (view .entry))) (now (out .entry)) (now (out .exit)) r ⌝ }
 {
-    let mut entries = [0u16; 128];
-    let mut ends = [0u8; 96];
-    let mut nodes = [0u16; 128];
+    let mut entries = [0u16; LINES];
+    let mut ends = [0u8; ENTRIES];
+    let mut nodes = [0u16; LINES];
     let reached = reach(
         master,
         program,
@@ -177,7 +168,8 @@ pub fn put_back(
     out: &mut [u8],
     work: &mut [u32],
 ) -> Reply
-    ensures { λ r. ⌜ outcome (r .number) (r .place) (r .length) (now (out .exit)) (now (work .exit)) ≡ putBackCall (now (master .entry)) (now (program .entry)) (now (view .entry)) (now (out .entry)) (now (work .entry)) ⌝ }
+    ensures { λ r. ⌜ outcome (r .number) (r .place) (r .length) (now (out .exit)) (now (work .exit))
+        ≡ putBackCall (now (master .entry)) (now (program .entry)) (now (view .entry)) (now (out .entry)) (now (work .entry)) ⌝ }
 {
     if out.len() < OUT_ROOM {
         return refuse(1, 0);

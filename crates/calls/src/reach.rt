@@ -3,7 +3,7 @@ use crate::files::judge_master;
 use crate::files::judge_program;
 use crate::reply::Reply;
 use crate::reply::Step;
-use crate::source::run;
+use crate::run_program::run_program;
 ghost use Prim.Native.Nat.{_≤_};
 ghost use lib.ListN.{length};
 ghost use Rattle.calls.specs.Outcomes.{workRoom};
@@ -37,7 +37,7 @@ pub fn reach(
             match master_step {
                 Step::Refused(reply) => Reached::Refused(reply),
                 Step::Goes(n) => {
-                    let run_step = run(
+                    let run_step = run_program(
                         program,
                         &entries[0..e],
                         &ends[0..e],

@@ -4,6 +4,10 @@ use crate::reach::reach;
 use crate::reply::Reply;
 use crate::reply::done;
 use crate::reply::refuse;
+use crate::room::ENTRIES;
+use crate::room::LINES;
+use crate::room::OUT_ROOM;
+use crate::room::WORK_ROOM;
 use crate::view_out::write_view;
 use values::extents::fill;
 ghost use mathlib.Core.Path.{_≡_};
@@ -13,18 +17,14 @@ ghost use Rattle.calls.specs.Judging.{judgedShow};
 ghost use Rattle.calls.specs.Outcomes.{outRoom, workRoom, outcome, showCall};
 ghost use Rattle.calls.specs.Parts.{Settles};
 
-pub const OUT_ROOM: usize = 9856;
-
-pub const WORK_ROOM: usize = 16384;
-
 // What is judged once there is room.
 fn judged_show(master: &[u8], program: &[u8], out: &mut [u8], work: &mut [u32]) -> Reply
     requires { ⌜ (outRoom ≤ length (now out)) × (workRoom ≤ length (now work)) ⌝ }
     ensures { λ r. ⌜ Settles (judgedShow (now (master .entry)) (now (program .entry))) (now (out .entry)) (now (out .exit)) r ⌝ }
 {
-    let mut entries = [0u16; 128];
-    let mut ends = [0u8; 96];
-    let mut nodes = [0u16; 128];
+    let mut entries = [0u16; LINES];
+    let mut ends = [0u8; ENTRIES];
+    let mut nodes = [0u16; LINES];
     let reached = reach(
         master,
         program,
@@ -49,7 +49,8 @@ fn judged_show(master: &[u8], program: &[u8], out: &mut [u8], work: &mut [u32]) 
 }
 
 pub fn show(master: &[u8], program: &[u8], out: &mut [u8], work: &mut [u32]) -> Reply
-    ensures { λ r. ⌜ outcome (r .number) (r .place) (r .length) (now (out .exit)) (now (work .exit)) ≡ showCall (now (master .entry)) (now (program .entry)) (now (out .entry)) (now (work .entry)) ⌝ }
+    ensures { λ r. ⌜ outcome (r .number) (r .place) (r .length) (now (out .exit)) (now (work .exit))
+        ≡ showCall (now (master .entry)) (now (program .entry)) (now (out .entry)) (now (work .entry)) ⌝ }
 {
     if out.len() < OUT_ROOM {
         return refuse(1, 0);

@@ -1,7 +1,7 @@
 // The edited view: replies 8 to 10, and the words of what its lines bring.
-use crate::reply::Reply;
 use crate::reply::Step;
 use crate::reply::refuse;
+use crate::room::SHOWN;
 use lines::fields::mark_at;
 use lines::fields::node_text;
 use lines::scan::File;
@@ -15,18 +15,17 @@ use values::standings::CHANGED;
 use values::standings::DELETED;
 use values::standings::UNTOUCHED;
 ghost use mathlib.Core.Path.{_≡_};
-ghost use mathlib.Core.List.{map};
 ghost use Prim.Native.Nat.{_≤_, _<_};
 ghost use lib.ListN.{length, getD};
-ghost use Rattle.lines.specs.Nodes.{nodeAt};
 ghost use Rattle.lines.specs.Writing.{putAt};
 ghost use Rattle.runs.specs.Grounds.{noLine};
+ghost use Rattle.runs.specs.Runs.{linesOf};
 ghost use Rattle.calls.specs.Parts.{ViewJudged, firstWith, broughtWord, broughtWords};
 
 // Leaves where each line of the view begins.
 pub fn judge_view(view: &[u8], lines: &mut [u16], fresh: &[u8], fresh_lines: &[u16]) -> Step
     requires { ⌜ 128 ≤ length (now lines) ⌝ }
-    ensures { λ r. ⌜ ViewJudged (map (nodeAt (now (fresh .entry))) (now («fresh_lines» .entry))) (now (view .entry)) (now (lines .exit)) r ⌝ }
+    ensures { λ r. ⌜ ViewJudged (linesOf (now (fresh .entry)) (now («fresh_lines» .entry))) (now (view .entry)) (now (lines .exit)) r ⌝ }
 {
     let scanned = scan_lines(File::View, view, lines);
     match scanned {
@@ -50,7 +49,7 @@ pub fn judge_view(view: &[u8], lines: &mut [u16], fresh: &[u8], fresh_lines: &[u
 // The first line with the text of line i.
 fn first_same(view: &[u8], lines: &[u16], i: usize) -> usize
     requires { ⌜ i < length (now lines) ⌝ }
-    ensures { λ r. ⌜ (r ≡ firstWith (getD (map (nodeAt (now (view .entry))) (now (lines .entry))) i noLine .text) 0 (map (nodeAt (now (view .entry))) (now (lines .entry)))) × (r ≤ i) ⌝ }
+    ensures { λ r. ⌜ (r ≡ firstWith (getD (linesOf (now (view .entry)) (now (lines .entry))) i noLine .text) 0 (linesOf (now (view .entry)) (now (lines .entry)))) × (r ≤ i) ⌝ }
 {
     let at = node_text(lines[i]);
     let mut j: usize = 0;
@@ -66,7 +65,7 @@ fn first_same(view: &[u8], lines: &[u16], i: usize) -> usize
 // What line i brings, as a word.
 fn brought(view: &[u8], lines: &[u16], i: usize) -> u32
     requires { ⌜ (i < length (now lines)) × (length (now lines) ≤ 128) ⌝ }
-    ensures { λ r. ⌜ r ≡ broughtWord (map (nodeAt (now (view .entry))) (now (lines .entry))) (getD (map (nodeAt (now (view .entry))) (now (lines .entry))) i noLine) ⌝ }
+    ensures { λ r. ⌜ r ≡ broughtWord (linesOf (now (view .entry)) (now (lines .entry))) (getD (linesOf (now (view .entry)) (now (lines .entry))) i noLine) ⌝ }
 {
     let mark = mark_at(view, lines[i]);
     if mark == 1 {
@@ -78,14 +77,14 @@ fn brought(view: &[u8], lines: &[u16], i: usize) -> u32
     UNTOUCHED
 }
 
-// The words of the view's standings, at place 128 of the work slice.
+// The words of the view's standings, at SHOWN.
 pub fn bring_view(view: &[u8], lines: &[u16], work: &mut [u32])
     requires { ⌜ (length (now lines) ≤ 128) × (256 ≤ length (now work)) ⌝ }
-    ensures { λ r. ⌜ now (work .exit) ≡ putAt (now (work .entry)) 128 (broughtWords (map (nodeAt (now (view .entry))) (now (lines .entry)))) ⌝ }
+    ensures { λ r. ⌜ now (work .exit) ≡ putAt (now (work .entry)) 128 (broughtWords (linesOf (now (view .entry)) (now (lines .entry)))) ⌝ }
 {
     let mut i: usize = 0;
     while i < lines.len() {
-        work[128 + i] = brought(view, lines, i);
+        work[SHOWN + i] = brought(view, lines, i);
         i += 1;
     }
 }

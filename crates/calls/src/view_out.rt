@@ -1,4 +1,5 @@
 // The view's lines, written from the words of what was shown.
+use crate::room::SHOWN;
 use lines::fields::kind_at;
 use lines::fields::mark_at;
 use lines::write::Head;
@@ -9,20 +10,19 @@ use runs::lookup::is_element_word;
 use runs::lookup::text_of_word;
 use values::nodes::LEVEL;
 ghost use mathlib.Core.Path.{_≡_};
-ghost use mathlib.Core.List.{map};
 ghost use Prim.Native.Nat.{_+_, _≤_, _<_, _/_};
 ghost use lib.ListN.{length};
-ghost use Rattle.lines.specs.Nodes.{nodeAt, untouchedMark};
-ghost use Rattle.lines.specs.Entries.{entryAt};
+ghost use Rattle.lines.specs.Nodes.{untouchedMark};
 ghost use Rattle.lines.specs.Writing.{headed, Written};
 ghost use Rattle.lines.specs.Writing.{lineOf as written};
-ghost use Rattle.values.specs.Words.{nodeOf};
+ghost use Rattle.runs.specs.Runs.{entriesOf, linesOf};
 ghost use Rattle.calls.specs.Parts.{wordLine, viewLines, ViewRoom, WroteLines};
 
 // A node's fields: those of the master's line of its number, or of what an entry of the program makes.
 fn head_of(program: &[u8], entries: &[u16], master: &[u8], nodes: &[u16], word: u32) -> Head
     requires { ⌜ word / 0x10000 < 256 ⌝ }
-    ensures { λ r. ⌜ headed r (wordLine (map (entryAt (now (program .entry))) (now (entries .entry))) (map (nodeAt (now (master .entry))) (now (nodes .entry))) word .text) ≡ wordLine (map (entryAt (now (program .entry))) (now (entries .entry))) (map (nodeAt (now (master .entry))) (now (nodes .entry))) word ⌝ }
+    ensures { λ r. ⌜ (let line = wordLine (entriesOf (now (program .entry)) (now (entries .entry))) (linesOf (now (master .entry)) (now (nodes .entry))) word in
+        headed r (line .text) ≡ line) ⌝ }
 {
     let depth = (word / LEVEL) as u8;
     let origin = word % LEVEL;
@@ -65,8 +65,9 @@ fn write_word(
     pos: usize,
 ) -> usize
     requires { ⌜ word / 0x10000 < 256 ⌝ }
-    requires { ⌜ pos + length (written (wordLine (map (entryAt (now program)) (now entries)) (map (nodeAt (now master)) (now nodes)) word)) ≤ length (now out) ⌝ }
-    ensures { λ r. ⌜ Written (now (out .entry)) (now (out .exit)) pos (written (wordLine (map (entryAt (now (program .entry))) (now (entries .entry))) (map (nodeAt (now (master .entry))) (now (nodes .entry))) word)) r ⌝ }
+    requires { ⌜ pos + length (written (wordLine (entriesOf (now program) (now entries)) (linesOf (now master) (now nodes)) word)) ≤ length (now out) ⌝ }
+    ensures { λ r. ⌜ (let line = wordLine (entriesOf (now (program .entry)) (now (entries .entry))) (linesOf (now (master .entry)) (now (nodes .entry))) word in
+        Written (now (out .entry)) (now (out .exit)) pos (written line) r) ⌝ }
 {
     let head = head_of(program, entries, master, nodes, word);
     let text = text_of_word(program, entries, nodes, word);
@@ -87,13 +88,14 @@ pub fn write_view(
     len: usize,
     out: &mut [u8],
 ) -> usize
-    requires { ⌜ ViewRoom (map (entryAt (now program)) (now entries)) (map (nodeAt (now master)) (now nodes)) (now work) len (now out) ⌝ }
-    ensures { λ r. ⌜ WroteLines (viewLines (map (entryAt (now (program .entry))) (now (entries .entry))) (map (nodeAt (now (master .entry))) (now (nodes .entry))) (now (work .entry)) len) (now (out .entry)) (now (out .exit)) r ⌝ }
+    requires { ⌜ ViewRoom (entriesOf (now program) (now entries)) (linesOf (now master) (now nodes)) (now work) len (now out) ⌝ }
+    ensures { λ r. ⌜ (let E = entriesOf (now (program .entry)) (now (entries .entry)) in
+        WroteLines (viewLines E (linesOf (now (master .entry)) (now (nodes .entry))) (now (work .entry)) len) (now (out .entry)) (now (out .exit)) r) ⌝ }
 {
     let mut pos: usize = 0;
     let mut i: usize = 0;
     while i < len {
-        pos = write_word(program, entries, master, nodes, work[128 + i], out, pos);
+        pos = write_word(program, entries, master, nodes, work[SHOWN + i], out, pos);
         i += 1;
     }
     pos

@@ -18,7 +18,8 @@ sets-append l i [] b = ap (λ (k : ℕ). sets l k b) (add-zero i)
 sets-append l i (x ∷ a) b = ap (λ (k : ℕ). sets (sets (set l i x) (suc i) a) k b) (omega arith) ∙ sets-append (set l i x) (suc i) a b
 
 -- bytes b behind the bytes a that stand from i on
-pub put-more : (l : List ℕ) (i : ℕ) (a b : List ℕ) {o o′ : List ℕ} → o ≡ sets l i (encode a) → (p : ℕ) → p ≡ i + 2 * length a → o′ ≡ sets o p (encode b) → o′ ≡ sets l i (encode (a ++ b))
+pub put-more : (l : List ℕ) (i : ℕ) (a b : List ℕ) {o o′ : List ℕ} → o ≡ sets l i (encode a)
+    → (p : ℕ) → p ≡ i + 2 * length a → o′ ≡ sets o p (encode b) → o′ ≡ sets l i (encode (a ++ b))
 put-more l i a b e p q h =
     h
     ∙ (ap (λ (x : List ℕ). sets x p (encode b)) e
@@ -26,13 +27,15 @@ put-more l i a b e p q h =
     ∙ (sets-append l i (encode a) (encode b) ∙ ap (sets l i) (sym (encode-append a b)))))
 
 -- byte j of a text behind those before it
-pub put-next : (l : List ℕ) (i : ℕ) (t : List ℕ) (j : ℕ) {o o′ : List ℕ} → j < length t → o ≡ sets l i (encode (take j t)) → (p : ℕ) → p ≡ i + 2 * j → o′ ≡ sets o p (encode (getD t j 0 ∷ [])) → o′ ≡ sets l i (encode (take (j + 1) t))
+pub put-next : (l : List ℕ) (i : ℕ) (t : List ℕ) (j : ℕ) {o o′ : List ℕ} → j < length t → o ≡ sets l i (encode (take j t))
+    → (p : ℕ) → p ≡ i + 2 * j → o′ ≡ sets o p (encode (getD t j 0 ∷ [])) → o′ ≡ sets l i (encode (take (j + 1) t))
 put-next l i t j h e p q r =
     put-more l i (take j t) (getD t j 0 ∷ []) e p (omega (arith, length-take-le j t (omega arith))) r
     ∙ ap (λ (x : List ℕ). sets l i (encode x)) (sym (rw add-one (take-suc t j 0 h)))
 
 -- the line's end
-pub put-end : (n : Node) (l : List ℕ) (i : ℕ) {o : List ℕ} → o ≡ sets l i (encode (bytesOf n)) → (p : ℕ) → p ≡ i + (12 + 2 * length (n .text)) → i + length (lineOf n) ≤ length l → set o p 0x0A ≡ putAt l i (lineOf n)
+pub put-end : (n : Node) (l : List ℕ) (i : ℕ) {o : List ℕ} → o ≡ sets l i (encode (bytesOf n))
+    → (p : ℕ) → p ≡ i + (12 + 2 * length (n .text)) → i + length (lineOf n) ≤ length l → set o p 0x0A ≡ putAt l i (lineOf n)
 unfolding putAt lineOf bytesOf
 put-end n l i e p q h =
     let b = bytesOf n in

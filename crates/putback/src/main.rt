@@ -1,4 +1,6 @@
 // Puts view.hex back into master.hex through program.hex.
+use calls::room::OUT_ROOM;
+use calls::room::WORK_ROOM;
 use shell::print::print_first;
 use shell::print::print_reply;
 use shell::print::print_unreadable;
@@ -27,8 +29,8 @@ fn main() {
     let m = of_master.count;
     let p = of_program.count;
     let v = of_view.count;
-    let mut out = [0u8; 9856];
-    let mut work = [0u32; 16384];
+    let mut out = [0u8; OUT_ROOM];
+    let mut work = [0u32; WORK_ROOM];
     let reply = calls::put_back::put_back(
         &master[0..m],
         &program[0..p],

@@ -1,6 +1,7 @@
 // Runs the cases on standard input, and writes for each the reply line, the output lines, and a line that says
 // whether the lent places were left as promised (00) or not (01).
 use calls::reply::Reply;
+use calls::room::WORK_ROOM;
 use shell::print::print_byte;
 use shell::print::print_first;
 use shell::print::print_reply;
@@ -65,10 +66,10 @@ fn kept(reply: Reply, out: &[u8], work: &[u32]) -> bool {
     if reply.number == 1 {
         return words_are(work, 0, MOST_WORK, WORK_PATTERN);
     }
-    if !words_are(work, 0, 16384, 0) {
+    if !words_are(work, 0, WORK_ROOM, 0) {
         return false;
     }
-    words_are(work, 16384, MOST_WORK, WORK_PATTERN)
+    words_are(work, WORK_ROOM, MOST_WORK, WORK_PATTERN)
 }
 
 fn report(reply: Reply, out: &[u8; 16384], work: &[u32; 20480]) -> bool {

@@ -20,7 +20,7 @@ use Rattle.values.specs.Values.{master, program, elementOf, bytesOf}
 use Rattle.values.specs.Words.{Made, originOf, nodeOf}
 use Rattle.runs.specs.Reading.{noEntry}
 use Rattle.runs.specs.Grounds.{noLine}
-use Rattle.runs.specs.Runs.{madeBy, lookupOf}
+use Rattle.runs.specs.Runs.{entriesOf, linesOf, madeBy, lookupOf}
 
 -- ## A file's lines, by where they begin
 
@@ -51,25 +51,28 @@ module _ (s : List ℕ) (p : ℕ) where
 
 -- an entry of the program
 module _ (prog starts : List ℕ) (p : ℕ) (h : p < length starts) where
-  entry-of : getD (map (entryAt prog) starts) p noEntry ≡ entryAt prog (getD starts p 0)
+  entry-of : getD (entriesOf prog starts) p noEntry ≡ entryAt prog (getD starts p 0)
   entry-of = line-at (entryAt prog) starts p noEntry h
 
-  pub operation-of : (r : ℕ) {b : ℕ} → r ≡ entryAt prog (getD starts p 0) .operation → r ≡ b → (getD (map (entryAt prog) starts) p noEntry) .operation ≡ b
+  pub operation-of : (r : ℕ) {b : ℕ} → r ≡ entryAt prog (getD starts p 0) .operation → r ≡ b → (getD (entriesOf prog starts) p noEntry) .operation ≡ b
   operation-of r e q = ap (λ (x : Entry). x .operation) entry-of ∙ sym e ∙ q
 
-  row-of : (b : ℕ) → (getD (map (entryAt prog) starts) p noEntry) .operation ≡ b → rowOf (entryAt prog (getD starts p 0) .operation) .0 ≡ rowOf b .0
+  row-of : (b : ℕ) → (getD (entriesOf prog starts) p noEntry) .operation ≡ b → rowOf (entryAt prog (getD starts p 0) .operation) .0 ≡ rowOf b .0
   row-of b o = ap (λ (k : ℕ). rowOf k .0) (sym (ap (λ (x : Entry). x .operation) entry-of) ∙ o)
 
   -- 05 and 0C have a slot byte, 12 a tag
-  pub slot-byte : (r : ℕ) → r ≡ pairAt prog (getD starts p 0 + 2) → (getD (map (entryAt prog) starts) p noEntry) .operation ≡ 0x05 → r ≡ slotOf (getD (map (entryAt prog) starts) p noEntry)
+  pub slot-byte : (r : ℕ) → r ≡ pairAt prog (getD starts p 0 + 2)
+      → (getD (entriesOf prog starts) p noEntry) .operation ≡ 0x05 → r ≡ slotOf (getD (entriesOf prog starts) p noEntry)
   unfolding rowOf rows
   slot-byte r e o = e ∙ sym (ap slotOf entry-of ∙ slot-of prog (getD starts p 0) (row-of 0x05 o))
 
-  pub bind-byte : (r : ℕ) → r ≡ pairAt prog (getD starts p 0 + 2) → (getD (map (entryAt prog) starts) p noEntry) .operation ≡ 0x0C → r ≡ slotOf (getD (map (entryAt prog) starts) p noEntry)
+  pub bind-byte : (r : ℕ) → r ≡ pairAt prog (getD starts p 0 + 2)
+      → (getD (entriesOf prog starts) p noEntry) .operation ≡ 0x0C → r ≡ slotOf (getD (entriesOf prog starts) p noEntry)
   unfolding rowOf rows
   bind-byte r e o = e ∙ sym (ap slotOf entry-of ∙ slot-of prog (getD starts p 0) (row-of 0x0C o))
 
-  pub tag-bytes : (r : ℕ) → r ≡ getD starts p 0 + 2 → (getD (map (entryAt prog) starts) p noEntry) .operation ≡ 0x12 → textAt prog r ≡ textOf (getD (map (entryAt prog) starts) p noEntry)
+  pub tag-bytes : (r : ℕ) → r ≡ getD starts p 0 + 2 → (getD (entriesOf prog starts) p noEntry) .operation ≡ 0x12
+      → textAt prog r ≡ textOf (getD (entriesOf prog starts) p noEntry)
   unfolding rowOf rows operandAt
   tag-bytes r e o = ap (textAt prog) e ∙ sym (ap textOf entry-of ∙ operand-text prog (getD starts p 0) (row-of 0x12 o))
 
@@ -86,44 +89,44 @@ from-program made word h = rw (le-ltb (word % 0x10000) 0x8000 h)
 
 module _ (prog entries file nodes : List ℕ) (word : ℕ) where
   abbrev made : Made
-  made = madeBy (map (entryAt prog) entries)
+  made = madeBy (entriesOf prog entries)
 
   -- the master's line of the number, or none
   module _ (h : word % 0x10000 < 0x8000) where
     pub element-line : word % 0x10000 < length nodes
-        → isElement (nodeAt file (getD nodes (word % 0x10000) 0) .kind) ≡ elementOf (lookupOf (map (nodeAt file) nodes)) (nodeOf made word .origin)
+        → isElement (nodeAt file (getD nodes (word % 0x10000) 0) .kind) ≡ elementOf (lookupOf (linesOf file nodes)) (nodeOf made word .origin)
     unfolding elementOf lookupOf
     element-line l = rw (from-master made word h, line-at (nodeAt file) nodes (word % 0x10000) noLine l)
 
-    pub element-no-line : length nodes ≤ word % 0x10000 → false ≡ elementOf (lookupOf (map (nodeAt file) nodes)) (nodeOf made word .origin)
+    pub element-no-line : length nodes ≤ word % 0x10000 → false ≡ elementOf (lookupOf (linesOf file nodes)) (nodeOf made word .origin)
     unfolding elementOf lookupOf isElement
     element-no-line l = rw (from-master made word h, no-line-at (nodeAt file) nodes (word % 0x10000) noLine l)
 
     pub text-line : word % 0x10000 < length nodes
-        → textAt file (getD nodes (word % 0x10000) 0 + 10) ≡ bytesOf (lookupOf (map (nodeAt file) nodes)) (nodeOf made word .origin)
+        → textAt file (getD nodes (word % 0x10000) 0 + 10) ≡ bytesOf (lookupOf (linesOf file nodes)) (nodeOf made word .origin)
     unfolding bytesOf lookupOf nodeAt
     text-line l = rw (from-master made word h) (sym (ap (λ (n : Line). n .text) (line-at (nodeAt file) nodes (word % 0x10000) noLine l)))
 
-    pub text-no-line : length nodes ≤ word % 0x10000 → [] ≡ bytesOf (lookupOf (map (nodeAt file) nodes)) (nodeOf made word .origin)
+    pub text-no-line : length nodes ≤ word % 0x10000 → [] ≡ bytesOf (lookupOf (linesOf file nodes)) (nodeOf made word .origin)
     unfolding bytesOf lookupOf
     text-no-line l = rw (from-master made word h) (sym (ap (λ (n : Line). n .text) (no-line-at (nodeAt file) nodes (word % 0x10000) noLine l)))
 
   -- the program's entry, or none
   module _ (h : 0x8000 ≤ word % 0x10000) where
     pub element-entry : word % 0x10000 - 0x8000 < length entries
-        → eqb (entryAt prog (getD entries (word % 0x10000 - 0x8000) 0) .operation) 4 ≡ elementOf (lookupOf (map (nodeAt file) nodes)) (nodeOf made word .origin)
+        → eqb (entryAt prog (getD entries (word % 0x10000 - 0x8000) 0) .operation) 4 ≡ elementOf (lookupOf (linesOf file nodes)) (nodeOf made word .origin)
     unfolding elementOf madeBy
     element-entry l = rw (from-program made word h, line-at (entryAt prog) entries (word % 0x10000 - 0x8000) noEntry l)
 
-    pub element-no-entry : length entries ≤ word % 0x10000 - 0x8000 → false ≡ elementOf (lookupOf (map (nodeAt file) nodes)) (nodeOf made word .origin)
+    pub element-no-entry : length entries ≤ word % 0x10000 - 0x8000 → false ≡ elementOf (lookupOf (linesOf file nodes)) (nodeOf made word .origin)
     unfolding elementOf madeBy
     element-no-entry l = rw (from-program made word h, no-line-at (entryAt prog) entries (word % 0x10000 - 0x8000) noEntry l)
 
     pub text-entry : word % 0x10000 - 0x8000 < length entries
-        → textOf (entryAt prog (getD entries (word % 0x10000 - 0x8000) 0)) ≡ bytesOf (lookupOf (map (nodeAt file) nodes)) (nodeOf made word .origin)
+        → textOf (entryAt prog (getD entries (word % 0x10000 - 0x8000) 0)) ≡ bytesOf (lookupOf (linesOf file nodes)) (nodeOf made word .origin)
     unfolding bytesOf madeBy
     text-entry l = rw (from-program made word h, line-at (entryAt prog) entries (word % 0x10000 - 0x8000) noEntry l)
 
-    pub text-no-entry : length entries ≤ word % 0x10000 - 0x8000 → [] ≡ bytesOf (lookupOf (map (nodeAt file) nodes)) (nodeOf made word .origin)
+    pub text-no-entry : length entries ≤ word % 0x10000 - 0x8000 → [] ≡ bytesOf (lookupOf (linesOf file nodes)) (nodeOf made word .origin)
     unfolding bytesOf madeBy textOf
     text-no-entry l = rw (from-program made word h, no-line-at (entryAt prog) entries (word % 0x10000 - 0x8000) noEntry l)

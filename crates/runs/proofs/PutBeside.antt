@@ -37,7 +37,11 @@ beside-rule : (look : Lookup) (e : ℕ) (Y Z : Transformation) (s s₁ s₂ : Sl
 unfolding putBack
 beside-rule look e Y Z s s₁ s₂ v v₁ v₂ m n ss us a b c d f g l =
     let t : drop m ss ≡ take n (drop m ss) = sym (take-all n (drop m ss) (omega (arith, length-drop m ss))) in
-    rw (a, b, c, d) (ap (λ (x : List Standing). let b = putBack look Z s v x us in let a = putBack look Y s v (take m ss) (b .inSlots) in back (merged (b .inSource) (a .inSource)) (a .inSlots)) t
+    rw (a, b, c, d)
+    (ap (λ (x : List Standing).
+    let b = putBack look Z s v x us in
+    let a = putBack look Y s v (take m ss) (b .inSlots) in
+    back (merged (b .inSource) (a .inSource)) (a .inSlots)) t
     ∙ rw (f, g, merged-comm (putBack look Z s v (take (length (valueOf (show look Z s v))) (drop (length (valueOf (show look Y s v))) ss)) us .inSource) _))
 
 module _ {entries : List Entry} {lines : List Line} {ends w marks : List ℕ} {slots : SlotWords} {entry start len view vlen top levels : ℕ}
@@ -55,12 +59,16 @@ module _ {entries : List Entry} {lines : List Line} {ends w marks : List ℕ} {s
       → (a : Shown) × (b : Shown) × (show (lookupOf lines) Y env src ≡ gives a) × (show (lookupOf lines) Z env src ≡ gives b) × (length (a .value) + length (b .value) ≡ vlen)
   unfolding Stands show
   beside-shown Y Z m q y z =
-      on-long (show (lookupOf lines) (beside entry Y Z) env src) vlen (begun .seen .fits (beside entry Y Z) q ((refl, begun .op), (m, subst (λ (j : ℕ). Stands entries Y j m) (add-one entry) y, z))) λ o e l.
-      on-pair (λ x. length (x .value) ≡ vlen → (a : Shown) × (b : Shown) × (show (lookupOf lines) Y env src ≡ gives a) × (show (lookupOf lines) Z env src ≡ gives b) × (length (a .value) + length (b .value) ≡ vlen))
+      on-long (show (lookupOf lines) (beside entry Y Z) env src) vlen
+      (begun .seen .fits (beside entry Y Z) q ((refl, begun .op), (m, subst (λ (j : ℕ). Stands entries Y j m) (add-one entry) y, z))) λ o e l.
+      on-pair (λ x. length (x .value) ≡ vlen
+      → (a : Shown) × (b : Shown) × (show (lookupOf lines) Y env src ≡ gives a) × (show (lookupOf lines) Z env src ≡ gives b)
+      × (length (a .value) + length (b .value) ≡ vlen))
       entry (show (lookupOf lines) Y env src) (show (lookupOf lines) Z env src) o e (λ a b p s _ k. (a, b, p, s, sym (length-append (a .value) (b .value)) ∙ k)) l
 
   -- the tree that stands here
-  abbrev parts : (Y : Transformation) × (Z : Transformation) × (m : ℕ) × (begun .ready .tree ≡ beside entry Y Z) × Stands entries Y (entry + 1) m × Stands entries Z m (begun .ready .behind)
+  abbrev parts : (Y : Transformation) × (Z : Transformation) × (m : ℕ) × (begun .ready .tree ≡ beside entry Y Z)
+      × Stands entries Y (entry + 1) m × Stands entries Z m (begun .ready .behind)
   parts = at-beside entries (begun .ready .tree) entry (begun .ready .behind) (begun .ready .placed .stands) (begun .op)
 
   -- where its second part is
@@ -77,7 +85,8 @@ module _ {entries : List Entry} {lines : List Line} {ends w marks : List ℕ} {s
       let a = beside-shown (parts .0) (parts .1) (parts .2) (begun .ready .behind) (parts .4) (parts .5) in
       not-stopped x (parts .1) (begun .ready .behind) (second (parts .1) (parts .2) (begun .ready .behind) (parts .0) (parts .4) (parts .5)) (gives-long _ (a .1) _ (a .3) refl)
 
-  module _ {w₁ w₂ : List ℕ} {m n : ℕ} (x : Got entries lines w slots (entry + 1) start len top w₁ m) (y : Got entries lines w slots (getD ends (entry + 1) 0) start len top w₂ n) where
+  module _ {w₁ w₂ : List ℕ} {m n : ℕ} (x : Got entries lines w slots (entry + 1) start len top w₁ m)
+      (y : Got entries lines w slots (getD ends (entry + 1) 0) start len top w₂ n) where
     fits₁ : top + m ≤ length w₁
     fits₁ = let e = begun .room .enough in let two = beside-levels in let s = x .small in omega arith
 
@@ -98,16 +107,20 @@ module _ {entries : List Entry} {lines : List Line} {ends w marks : List ℕ} {s
         → PutSpace w₂ marks′ slots start len (view + m) n top (levels - 1) × Seen entries lines w₂ slots (getD ends (entry + 1) 0) start len n
     beside-asks-second k =
         let two = beside-levels in
-        let c = view-cuts in
-        (put-space (begun .room) (y .kept) k (begun .room .below) (begun .room .short) (omega arith) (omega arith) (omega arith), got-seen y fits₂ (y .frame) (begun .room .below) (begun .room .bound))
+        let c = view-cuts in (
+          put-space (begun .room) (y .kept) k (begun .room .below) (begun .room .short) (omega arith) (omega arith) (omega arith),
+          got-seen y fits₂ (y .frame) (begun .room .below) (begun .room .bound),
+        )
 
     pub beside-asks-first : {w₃ marks′ : List ℕ} → take top w₃ ≡ take top w₂ → length w₃ ≡ length w₂ → length marks′ ≡ length marks
         → PutSpace w₃ marks′ slots start len view m (top + 128) (levels - 1) × Seen entries lines w₃ slots (entry + 1) start len m
     beside-asks-first f l k =
         let two = beside-levels in
         let c = view-cuts in
-        let b = begun .room .below in
-        (put-space (begun .room) (l ∙ (y .kept)) k (omega arith) (begun .room .short) (omega arith) (omega arith) (omega arith), got-seen x fits₁ (f ∙ y .frame) b (begun .room .bound))
+        let b = begun .room .below in (
+          put-space (begun .room) (l ∙ (y .kept)) k (omega arith) (begun .room .short) (omega arith) (omega arith) (omega arith),
+          got-seen x fits₁ (f ∙ y .frame) b (begun .room .bound),
+        )
 
     pub beside-back : {w₃ w₄ w₅ marks₃ marks₄ : List ℕ} → length w₄ ≡ length w
         → PutBy entries lines w₂ marks slots (getD ends (entry + 1) 0) start len (view + m) n top w₃ marks₃
@@ -130,7 +143,11 @@ module _ {entries : List Entry} {lines : List Line} {ends w marks : List ℕ} {s
         let i = put-by p (holds-frame top (y .frame) (omega arith) (view-cut .1)) u (t .1) q z in
         let j = put-by o (holds-frame top f₃ (omega arith) (view-cut .0)) (i .slots-hold) (t .0) (t .2) (t .4) in
         rw (t .3) (subst (HandsBack texts w₅ marks₄ slots top len)
-        (beside-rule (lookupOf lines) entry (t .0) (t .1) env _ _ src _ _ m n ss us (slots-frame (madeBy entries) w w₂ (begun .room .bound) (y .frame)) (slots-frame (madeBy entries) w w₃ (begun .room .bound) f₃)
+        (beside-rule (lookupOf lines) entry (t .0) (t .1) env _ _ src _ _ m n ss us
+        (slots-frame (madeBy entries) w w₂ (begun .room .bound) (y .frame)) (slots-frame (madeBy entries) w w₃ (begun .room .bound) f₃)
         (value-frame (madeBy entries) w w₂ top start len (y .frame) b) (value-frame (madeBy entries) w w₃ top start len f₃ b)
         (got-size x fits₁ (t .0) (t .2) (t .4)) (got-size y fits₂ (t .1) q z) (omega (arith, holds-length g (omega arith))))
-        (record { source = holds-merged w₄ c (omega arith) (omega arith) (omega arith) (holds-frame (top + 128) (o .frame) (omega arith) (i .source)) (j .source); slots-hold = j .slots-hold }))
+        (record {
+          source = holds-merged w₄ c (omega arith) (omega arith) (omega arith) (holds-frame (top + 128) (o .frame) (omega arith) (i .source)) (j .source);
+          slots-hold = j .slots-hold;
+        }))

@@ -67,6 +67,7 @@ module _ {entries : List Entry} {lines : List Line} {ends w marks : List ℕ} {s
             short = omega arith;
             view-below = begun .room .view-below;
             enough = omega arith;
+            low = omega arith;
             marks-long = ap length c₁ ∙ (m ∙ k);
             bound = more-bound (begun .room .bound) left byte start len (begun .room .below) h;
           },
@@ -88,7 +89,8 @@ module _ {entries : List Entry} {lines : List Line} {ends w marks : List ℕ} {s
         by-put (kept-below w₂ top (part marks₂ (128 * slots .count) len) c (omega arith) ∙ y .frame) λ texts ss us g u X q st.
         let t = at-bind entries X entry q st (begun .op) in
         let v = length-value (madeBy entries) w start len (omega arith) in
-        let fresh = subst (λ (m : List ℕ). SlotsHold texts m inner (allOver untouched src ∷ us)) (sym c₁) (more-hold texts (begun .room .bound) left byte start len src v h (begun .room .marks-long) u) in
+        let fresh = subst (λ (m : List ℕ). SlotsHold texts m inner (allOver untouched src ∷ us)) (sym c₁)
+        (more-hold texts (begun .room .bound) left byte start len src v h (begun .room .marks-long) u) in
         let i = put-by y g fresh (t .0) q (t .2) in
         let j = less-hold texts (begun .room .bound) left byte start len (i .slots-hold) in
         rw (t .1) (subst (HandsBack texts w₃ marks₂ slots top len)

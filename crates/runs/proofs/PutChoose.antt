@@ -19,11 +19,12 @@ use Rattle.runs.specs.Results.{gives}
 use Rattle.runs.specs.Programs.{Transformation, choose, Test}
 use Rattle.runs.specs.Showing.{Slots, Shown, Answer, show, test}
 use Rattle.runs.specs.PuttingBack.{SlotStandings, Back, saysYes, putBack, putBackTest}
-use Rattle.runs.specs.Runs.{madeBy, lookupOf, slotsAt, yesOnly, branchAt, Ready, TestedBy, PutSpace, Seen, Asked, PutBy, TestPutBy}
+use Rattle.runs.specs.Ends.{branchAt}
+use Rattle.runs.specs.Runs.{madeBy, lookupOf, slotsAt, yesOnly, TestedBy, PutSpace, Seen, Asked, PutBy, TestPutBy}
 use Rattle.runs.specs.Theorems.Combinators.{branchRun}
 use Rattle.runs.specs.Trees.{Stands, StandsTest}
 use Rattle.runs.specs.Theorems.Inversion.{no-gives, gives-inj, on-bind}
-use Rattle.runs.proofs.Trees.{at-choose, here, ready-choose}
+use Rattle.runs.proofs.Trees.{at-choose, here, ready-choose, branch-stands}
 use Rattle.runs.proofs.SlotLaws.{slots-frame}
 use Rattle.runs.proofs.PutWords.{holds-frame}
 use Rattle.runs.proofs.PutRuns.{Begun, HandsBack, put-by, by-put, test-by, GivesLong, on-long, gives-long, answer-is, put-space}
@@ -68,7 +69,8 @@ module _ {entries : List Entry} {lines : List Line} {ends w marks : List ℕ} {s
       (p, s, gives-long (branchRun (p .yes) (show (lookupOf lines) Y) (show (lookupOf lines) Z) env src) a vlen i (ap (λ (x : Shown). length (x .value)) (gives-inj _ o e₂) ∙ k))
 
   -- the tree that stands here
-  abbrev parts : (P : Test) × (Y : Transformation) × (Z : Transformation) × (l : ℕ) × (m : ℕ) × (begun .ready .tree ≡ choose entry P Y Z) × StandsTest entries P (entry + 1) l × Stands entries Y l m × Stands entries Z m (begun .ready .behind)
+  abbrev parts : (P : Test) × (Y : Transformation) × (Z : Transformation) × (l : ℕ) × (m : ℕ) × (begun .ready .tree ≡ choose entry P Y Z)
+      × StandsTest entries P (entry + 1) l × Stands entries Y l m × Stands entries Z m (begun .ready .behind)
   parts = at-choose entries (begun .ready .tree) entry (begun .ready .behind) (begun .ready .placed .stands) (begun .op)
 
   pub choose-goes : {w₁ : List ℕ} {s : Stop} → TestedBy entries lines w slots (entry + 1) start len top w₁ (tested.Stop s) → ⊥
@@ -80,13 +82,6 @@ module _ {entries : List Entry} {lines : List Line} {ends w marks : List ℕ} {s
     says : (P : Test) (l : ℕ) → StandsTest entries P (entry + 1) l → b ≡ saysYes (test (lookupOf lines) P env src)
     says P l t = sym (answer-is (test (lookupOf lines) P env src) b (sym (x .meets P l t)))
 
-    pub ready-branch : Ready entries ends slots (branchAt ends (entry + 1) b) (levels - 1)
-    ready-branch = go b
-      where
-        go : (b : Bool) → Ready entries ends slots (branchAt ends (entry + 1) b) (levels - 1)
-        go true = ready-choose (begun .ready) (begun .op) .1
-        go false = ready-choose (begun .ready) (begun .op) .2
-
     branch-shown : (X : Transformation) (q : ℕ) → Stands entries X (branchAt ends (entry + 1) b) q → GivesLong (show (lookupOf lines) X env src) vlen
     unfolding saysYes
     branch-shown X q st = go b (says (parts .0) (parts .3) (parts .6)) st
@@ -97,11 +92,13 @@ module _ {entries : List Entry} {lines : List Line} {ends w marks : List ℕ} {s
         ends-yes : getD ends (parts .3) 0 ≡ parts .4
         ends-yes = begun .ready .ended .tree (parts .1) (parts .3) (parts .4) (parts .7)
 
-        go : (b : Bool) → b ≡ saysYes (test (lookupOf lines) (parts .0) env src) → Stands entries X (branchAt ends (entry + 1) b) q → GivesLong (show (lookupOf lines) X env src) vlen
+        go : (b : Bool) → b ≡ saysYes (test (lookupOf lines) (parts .0) env src)
+            → Stands entries X (branchAt ends (entry + 1) b) q → GivesLong (show (lookupOf lines) X env src) vlen
         go true e s =
             let y : Stands entries X (parts .3) q = subst (λ (j : ℕ). Stands entries X j q) ends-test s in
             let m : parts .4 ≡ q = sym ends-yes ∙ begun .ready .ended .tree X (parts .3) q y in
-            let a = choose-shown (parts .0) X (parts .2) (parts .3) q (begun .ready .behind) (parts .6) y (subst (λ (j : ℕ). Stands entries (parts .2) j (begun .ready .behind)) m (parts .8)) in
+            let a = choose-shown (parts .0) X (parts .2) (parts .3) q (begun .ready .behind) (parts .6) y
+            (subst (λ (j : ℕ). Stands entries (parts .2) j (begun .ready .behind)) m (parts .8)) in
             subst (λ (t : Bool). GivesLong (branchRun t (show (lookupOf lines) X) (show (lookupOf lines) (parts .2)) env src) vlen) (sym (e ∙ ap saysYes (a .1))) (a .2)
         go false e s =
             let z : Stands entries X (parts .4) q = subst (λ (j : ℕ). Stands entries X j q) (ap (λ (i : ℕ). getD ends i 0) ends-test ∙ ends-yes) s in
@@ -112,7 +109,11 @@ module _ {entries : List Entry} {lines : List Line} {ends w marks : List ℕ} {s
         → PutSpace w₁ marks′ slots start len view vlen top (levels - 1) × Seen entries lines w₁ slots (branchAt ends (entry + 1) b) start len vlen
     branch-asks l some k = (
       put-space (begun .room) l k (begun .room .below) (begun .room .short) (begun .room .view-below) (omega arith) (omega arith),
-      record { fits = λ X q st. rw (slots-frame (madeBy entries) w w₁ (begun .room .bound) (x .frame), value-frame (madeBy entries) w w₁ top start len (x .frame) (begun .room .below)) (branch-shown X q st) },
+      record {
+        fits = λ X q st.
+            rw (slots-frame (madeBy entries) w w₁ (begun .room .bound) (x .frame), value-frame (madeBy entries) w w₁ top start len (x .frame) (begun .room .below))
+            (branch-shown X q st);
+      },
     )
 
     pub test-asks : {w₂ : List ℕ} → take top w₂ ≡ take top w₁ → length w₂ ≡ length w → 1 ≤ levels → {marks′ : List ℕ} → length marks′ ≡ length marks
@@ -120,7 +121,13 @@ module _ {entries : List Entry} {lines : List Line} {ends w marks : List ℕ} {s
     test-asks {w₂} f l some k =
         let g : take top w₂ ≡ take top w = f ∙ x .frame in (
           put-space (begun .room) l k (begun .room .below) (begun .room .short) (begun .room .below) (omega arith) (omega arith),
-          record { answers = λ P q t. (b, rw (slots-frame (madeBy entries) w w₂ (begun .room .bound) g, value-frame (madeBy entries) w w₂ top start len g (begun .room .below)) (sym (x .meets P q t))) },
+          record {
+            answers = λ P q t. (
+              b,
+              rw (slots-frame (madeBy entries) w w₂ (begun .room .bound) g, value-frame (madeBy entries) w w₂ top start len g (begun .room .below))
+                  (sym (x .meets P q t)),
+            );
+          },
         )
 
     pub choose-back : {w₂ w₃ marks₂ marks₃ : List ℕ}
@@ -131,13 +138,11 @@ module _ {entries : List Entry} {lines : List Line} {ends w marks : List ℕ} {s
         let f₂ : take top w₂ ≡ take top w = y .frame ∙ x .frame in
         by-put (z .frame ∙ f₂) λ texts ss us g u X q st.
         let t = at-choose entries X entry q st (begun .op) in
-        let i = put-by y (holds-frame top (x .frame) (begun .room .view-below) g) u (cond b (t .1) (t .2)) (cond b (t .4) q) (branch (t .0) (t .1) (t .2) (t .3) (t .4) q (t .6) (t .7) (t .8) b) in
+        let i = put-by y (holds-frame top (x .frame) (begun .room .view-below) g) u (cond b (t .1) (t .2))
+        (cond b (t .4) q) (branch-stands entries (begun .ready .ended) (entry + 1) (t .0) (t .1) (t .2) (t .3) (t .4) q (t .6) (t .7) (t .8) b) in
         let j = test-by z (i .source) (i .slots-hold) (t .0) (t .3) (t .6) in
         rw (t .5) (subst (HandsBack texts w₃ marks₃ slots top len)
-        (choose-rule (lookupOf lines) entry (t .0) (t .1) (t .2) env _ _ src _ _ ss us b (slots-frame (madeBy entries) w w₁ (begun .room .bound) (x .frame)) (slots-frame (madeBy entries) w w₂ (begun .room .bound) f₂)
-        (value-frame (madeBy entries) w w₁ top start len (x .frame) (begun .room .below)) (value-frame (madeBy entries) w w₂ top start len f₂ (begun .room .below)) (says (t .0) (t .3) (t .6))) j)
-      where
-        branch : (P : Test) (Y Z : Transformation) (l m q : ℕ) → StandsTest entries P (entry + 1) l → Stands entries Y l m → Stands entries Z m q
-            → (b : Bool) → Stands entries (cond b Y Z) (branchAt ends (entry + 1) b) (cond b m q)
-        branch P Y Z l m q t y z true = rw (begun .ready .ended .test P (entry + 1) l t) y
-        branch P Y Z l m q t y z false = rw (begun .ready .ended .test P (entry + 1) l t, begun .ready .ended .tree Y l m y) z
+        (choose-rule (lookupOf lines) entry (t .0) (t .1) (t .2) env _ _ src _ _ ss us b
+        (slots-frame (madeBy entries) w w₁ (begun .room .bound) (x .frame)) (slots-frame (madeBy entries) w w₂ (begun .room .bound) f₂)
+        (value-frame (madeBy entries) w w₁ top start len (x .frame) (begun .room .below))
+        (value-frame (madeBy entries) w w₂ top start len f₂ (begun .room .below)) (says (t .0) (t .3) (t .6))) j)

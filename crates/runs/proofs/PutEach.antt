@@ -89,7 +89,8 @@ module _ {entries : List Entry} {lines : List Line} {ends w₀ marks₀ : List �
   pub items-start : At w₀ marks₀ 0 0
   unfolding Stands show standingsAt
   items-start =
-      let whole : items (valueAt (madeBy entries) w₀ start len) ≡ rest 0 = ap₂ (λ (i n : ℕ). items (valueAt (madeBy entries) w₀ i n)) (let e : start ≡ start + 0 = omega arith in e) (let e : len ≡ len - 0 = omega arith in e) in
+      let whole : items (valueAt (madeBy entries) w₀ start len) ≡ rest 0
+      = ap₂ (λ (i n : ℕ). items (valueAt (madeBy entries) w₀ i n)) (let e : start ≡ start + 0 = omega arith in e) (let e : len ≡ len - 0 = omega arith in e) in
       record {
         most = omega arith;
         few = omega arith;
@@ -100,7 +101,8 @@ module _ {entries : List Entry} {lines : List Line} {ends w₀ marks₀ : List �
             on-long (show (lookupOf lines) (each entry X) (slotsAt (madeBy entries) w₀ slots) (valueAt (madeBy entries) w₀ start len)) vlen
             (begun .seen .fits (each entry X) q ((refl, begun .op), subst (λ (j : ℕ). Stands entries X j q) (add-one entry) st)) λ o e l.
             (0, o, sym (ap (λ (is : List Value). inTurn entry 0 (map (run X) is)) whole) ∙ e, (let d : length (o .value) ≡ vlen - 0 = omega arith in d));
-        goes = λ texts ss us g u X q st. ([], us, record { says = refl; named = tt }, u, ap (λ (is : List Value). over (lookupOf lines) X (slotsAt (madeBy entries) w₀ slots) is ss us) whole);
+        goes = λ texts ss us g u X q st.
+            ([], us, record { says = refl; named = tt }, u, ap (λ (is : List Value). over (lookupOf lines) X (slotsAt (madeBy entries) w₀ slots) is ss us) whole);
       }
 
   pub items-end : {w marks : List ℕ} {at done : ℕ} → At w marks at done → len ≤ at → PutBy entries lines w₀ marks₀ slots entry start len view vlen top w marks
@@ -112,7 +114,9 @@ module _ {entries : List Entry} {lines : List Line} {ends w₀ marks₀ : List �
       let none : rest at ≡ [] = ap items (ap (valueAt (madeBy entries) w₀ (start + at)) (let e : len - at ≡ 0 = omega arith in e) ∙ value-none (madeBy entries) w₀ (start + at)) in
       let all : at ≡ len = omega arith in
       rw (t .1) (subst (HandsBack texts w marks slots top len)
-      (sym (s .4 ∙ (ap (λ (is : List Value). behind (s .0) (over (lookupOf lines) (t .0) (slotsAt (madeBy entries) w₀ slots) is (drop done ss) (s .1))) none ∙ ap (λ (rs : List Standing). back rs (s .1)) (append-nil (s .0)))))
+      (sym (s .4
+      ∙ (ap (λ (is : List Value). behind (s .0) (over (lookupOf lines) (t .0) (slotsAt (madeBy entries) w₀ slots) is (drop done ss) (s .1))) none
+      ∙ ap (λ (rs : List Standing). back rs (s .1)) (append-nil (s .0)))))
       (record { source = subst (λ (n : ℕ). Holds texts w top n (s .0)) all (s .2); slots-hold = s .3 }))
 
   module _ {w marks : List ℕ} {at done : ℕ} (g : At w marks at done) (more : at < len) {k : ℕ} (f : FirstItem w (start + at) (len - at) k) where
@@ -132,10 +136,12 @@ module _ {entries : List Entry} {lines : List Line} {ends w₀ marks₀ : List �
         ∙ ap₂ (valueAt (madeBy entries) w₀) (let d : start + at + k ≡ start + (at + k) = omega arith in d) (let d : len - at - k ≡ len - (at + k) = omega arith in d)))
 
     item-shown : (X : Transformation) (q : ℕ) → Stands entries X (entry + 1) q
-        → (a : Shown) × (b : Shown) × (m : ℕ) × (run X item ≡ gives a) × (inTurn entry m (map (run X) (rest (at + k))) ≡ gives b) × (length (a .value) + length (b .value) ≡ vlen - done)
+        → (a : Shown) × (b : Shown) × (m : ℕ) × (run X item ≡ gives a)
+        × (inTurn entry m (map (run X) (rest (at + k))) ≡ gives b) × (length (a .value) + length (b .value) ≡ vlen - done)
     item-shown X q st =
         let s = g .shown X q st in
-        on-turn (λ o. length (o .value) ≡ vlen - done → (a : Shown) × (b : Shown) × (m : ℕ) × (run X item ≡ gives a) × (inTurn entry m (map (run X) (rest (at + k))) ≡ gives b) × (length (a .value) + length (b .value) ≡ vlen - done))
+        on-turn (λ o. length (o .value) ≡ vlen - done → (a : Shown) × (b : Shown) × (m : ℕ) × (run X item ≡ gives a)
+        × (inTurn entry m (map (run X) (rest (at + k))) ≡ gives b) × (length (a .value) + length (b .value) ≡ vlen - done))
         entry (s .0) (run X item) (map (run X) (rest (at + k))) (s .1) (sym (ap (λ (is : List Value). inTurn entry (s .0) (map (run X) is)) cut-items) ∙ s .2)
         (λ a b p _ q l. (a, b, s .0 + length (a .value), p, q, sym (length-append (a .value) (b .value)) ∙ l)) (s .3)
 
@@ -153,7 +159,9 @@ module _ {entries : List Entry} {lines : List Line} {ends w₀ marks₀ : List �
     item-goes x =
         let t = at-each entries (begun .ready .tree) entry (begun .ready .behind) (begun .ready .placed .stands) (begun .op) in
         let a = item-shown (t .0) (begun .ready .behind) (t .2) in
-        not-stopped x (t .0) (begun .ready .behind) (t .2) (gives-long (show (lookupOf lines) (t .0) (slotsAt (madeBy entries) w slots) (valueAt (madeBy entries) w (start + at) k)) (a .0) (length (a .0 .value)) (rw (item-now .0, item-now .1) (a .3)) refl)
+        not-stopped x (t .0) (begun .ready .behind) (t .2)
+        (gives-long (show (lookupOf lines) (t .0) (slotsAt (madeBy entries) w slots) (valueAt (madeBy entries) w (start + at) k))
+        (a .0) (length (a .0 .value)) (rw (item-now .0, item-now .1) (a .3)) refl)
 
     module _ {w₁ : List ℕ} {m : ℕ} (x : Got entries lines w slots (entry + 1) (start + at) k (top + 128) w₁ m) where
       item-size : (X : Transformation) (q : ℕ) → Stands entries X (entry + 1) q → m ≡ length (valueOf (run X item))
@@ -171,7 +179,9 @@ module _ {entries : List Entry} {lines : List Line} {ends w₀ marks₀ : List �
           (sym l, omega arith)
 
       pub item-fits : done + m ≤ vlen
-      item-fits = let t = at-each entries (begun .ready .tree) entry (begun .ready .behind) (begun .ready .placed .stands) (begun .op) in sizes (t .0) (begun .ready .behind) (t .2) .1
+      item-fits =
+          let t = at-each entries (begun .ready .tree) entry (begun .ready .behind) (begun .ready .placed .stands) (begun .op) in
+          sizes (t .0) (begun .ready .behind) (t .2) .1
 
       pub item-asks : PutSpace w₁ marks slots (start + at) k (view + done) m (top + at) (levels - 1) × Seen entries lines w₁ slots (entry + 1) (start + at) k m
       item-asks =
@@ -210,8 +220,10 @@ module _ {entries : List Entry} {lines : List Line} {ends w₀ marks₀ : List �
                   holds-join refl (holds-frame (top + at) (y .frame) (omega arith) (holds-frame (top + 128) (x .frame) (omega arith) (s .2))) (j .source),
                   j .slots-hold,
                   s .4 ∙ (ap (λ (is : List Value). behind (s .0) (over (lookupOf lines) X (slotsAt (madeBy entries) w₀ slots) is (drop done ss) (s .1))) cut-items
-                      ∙ (next-rule (lookupOf lines) X (slotsAt (madeBy entries) w₀ slots) _ item _ (rest (at + k)) m (s .0) (drop done ss) (s .1) (slots-frame (madeBy entries) w₀ w₁ (begun .room .bound) f₁)
-                      (value-frame (madeBy entries) w₀ w₁ top (start + at) k f₁ (omega arith)) (item-size X q st) (ended ∙ sym (length-value (madeBy entries) w₀ (start + at) k (omega arith)))
+                      ∙ (next-rule (lookupOf lines) X (slotsAt (madeBy entries) w₀ slots) _ item _ (rest (at + k)) m
+                      (s .0) (drop done ss) (s .1) (slots-frame (madeBy entries) w₀ w₁ (begun .room .bound) f₁)
+                      (value-frame (madeBy entries) w₀ w₁ top (start + at) k f₁ (omega arith)) (item-size X q st)
+                      (ended ∙ sym (length-value (madeBy entries) w₀ (start + at) k (omega arith)))
                       ∙ rw (drop-drop m done ss))),
                 );
           }

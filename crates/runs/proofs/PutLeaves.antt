@@ -32,7 +32,8 @@ use Rattle.runs.proofs.PutWords.{Holds, holds-frame, holds-join, holds-
 use Rattle.runs.proofs.PutSlots.{merged-hold}
 use Rattle.runs.proofs.PutRuns.{HandsBack, by-put, on-long}
 
-module _ {entries : List Entry} {lines : List Line} {ends w marks : List ℕ} {slots : SlotWords} {entry start len view vlen top levels : ℕ} (r : Ready entries ends slots entry levels)
+module _ {entries : List Entry} {lines : List Line} {ends w marks : List ℕ} {slots : SlotWords}
+    {entry start len view vlen top levels : ℕ} (r : Ready entries ends slots entry levels)
     (room : PutSpace w marks slots start len view vlen top levels) (seen : Seen entries lines w slots entry start len vlen) (some : 1 ≤ levels) where
   abbrev env : Slots
   env = slotsAt (madeBy entries) w slots
@@ -110,7 +111,8 @@ module _ {entries : List Entry} {lines : List Line} {ends w marks : List ℕ} {s
     slot-back {w′} {marks′} c d =
         by-put (filled-frame c) λ texts ss us g u X q st.
         let n = slot-long in
-        let m = merged-hold texts (madeBy entries) w (room .bound) byte marks w view ss (room .marks-long) slot-found (omega arith) (subst (λ (k : ℕ). Holds texts w view k ss) n g) u in
+        let m = merged-hold texts (madeBy entries) w (room .bound) byte marks w view ss
+        (room .marks-long) slot-found (omega arith) (subst (λ (k : ℕ). Holds texts w view k ss) n g) u in
         rw (at-slot entries X entry q st op, ← is, d) (record { source = source-untouched c; slots-hold = m })
 
   -- ## 06
@@ -123,7 +125,8 @@ module _ {entries : List Entry} {lines : List Line} {ends w marks : List ℕ} {s
       sym src-long ∙ (on-element (lookupOf lines) (λ v z. length v ≡ 1 + length (z .inner)) (λ y v _ _. let k = length-lowered v in omega arith) entry src x p
       ∙ ap (λ (n : ℕ). 1 + n) (ap (λ (x : Shown). length (x .value)) (gives-inj _ a e₁) ∙ l))
 
-  pub contents-back : {w′ : List ℕ} → operation ≡ 0x06 → w′ ≡ putAt (putAt w top (replicate 1 0)) (top + 1) (part w view (len - 1)) → PutBy entries lines w marks slots entry start len view vlen top w′ marks
+  pub contents-back : {w′ : List ℕ} → operation ≡ 0x06 → w′ ≡ putAt (putAt w top (replicate 1 0)) (top + 1) (part w view (len - 1))
+      → PutBy entries lines w marks slots entry start len view vlen top w′ marks
   unfolding putBack allOver
   contents-back {w′} op c =
       let n = contents-long op in
@@ -150,7 +153,10 @@ not-source {r} h n = past 1 r h (n .0 .0 .0 .0 .0 .0 .0 .1)
 
 pub bind-left : {r : ℕ} → 1 ≤ r → r < 0x0D → (r < 1) ⊎ (5 ≤ r) → NoOther r → r ≡ 0x0C
 bind-left {r} low high (inl h) n = absurd (omega arith)
-bind-left {r} low high (inr h) n = last r (past 11 r (past 10 r (past 9 r (past 8 r (past 7 r (past 6 r (past 5 r h (n .0 .0 .0 .0 .0 .0 .1)) (n .0 .0 .0 .0 .0 .1)) (n .0 .0 .0 .0 .1)) (n .0 .0 .0 .1)) (n .0 .0 .1)) (n .0 .1)) (n .1)) high
+bind-left {r} low high (inr h) n =
+    let past-seven : 8 ≤ r = past 7 r (past 6 r (past 5 r h (n .0 .0 .0 .0 .0 .0 .1)) (n .0 .0 .0 .0 .0 .1)) (n .0 .0 .0 .0 .1) in
+    let past-ten : 11 ≤ r = past 10 r (past 9 r (past 8 r past-seven (n .0 .0 .0 .1)) (n .0 .0 .1)) (n .0 .1) in
+    last r (past 11 r past-ten (n .1)) high
   where
     last : (r : ℕ) → 0x0C ≤ r → r < 0x0D → r ≡ 0x0C
     last r l h = omega arith

@@ -14,6 +14,7 @@ use Rattle.values.specs.Theorems.WordLaws.{length-value, value-frame}
 use Rattle.runs.specs.declared.stop.Stop.{Stop}
 use Rattle.runs.specs.declared.stop.Run.{Run}
 use Rattle.runs.specs.declared.stop.Tested.{Tested}
+use Rattle.runs.specs.declared.at.At.{At}
 use Rattle.runs.specs.declared.slots.Slots.{Slots as SlotWords}
 use Rattle.runs.specs.Results.{Result, gives, stops}
 use Rattle.runs.specs.Programs.{Transformation, Test}
@@ -37,7 +38,8 @@ pub record HandsBack (texts : ℕ → List ℕ) (w marks : List ℕ) (slots : Sl
   pub slots-hold : SlotsHold texts marks slots (b .inSlots)
 
 -- the four parts of what a contract says, of an extent and slots that hold these standings
-hands : {texts : ℕ → List ℕ} {w marks w′ marks′ : List ℕ} {slots : SlotWords} {view vlen top len : ℕ} {ss : List Standing} {us : SlotStandings} (b : List Standing → SlotStandings → Back)
+hands : {texts : ℕ → List ℕ} {w marks w′ marks′ : List ℕ} {slots : SlotWords} {view vlen top len : ℕ}
+    {ss : List Standing} {us : SlotStandings} (b : List Standing → SlotStandings → Back)
     → Holds texts w view vlen ss → SlotsHold texts marks slots us
     → (let c = b (standingsAt texts w view vlen) (marksAt texts marks slots) in
     (standingsAt texts w′ top len ≡ c .inSource) × (marksAt texts marks′ slots ≡ c .inSlots) × AllNamed texts (part w′ top len) × NamedTo texts marks′ slots (slots .count))
@@ -56,7 +58,8 @@ module _ {entries : List Entry} {lines : List Line} where
         hands (putBack (lookupOf lines) X (slotsAt (madeBy entries) w slots) (valueAt (madeBy entries) w start len)) h u (p .meets texts (h .named) (u .named) X q st)
 
     pub by-put : take top w′ ≡ take top w
-        → ((texts : ℕ → List ℕ) (ss : List Standing) (us : SlotStandings) → Holds texts w view vlen ss → SlotsHold texts marks slots us → (X : Transformation) (q : ℕ) → Stands entries X entry q
+        → ((texts : ℕ → List ℕ) (ss : List Standing) (us : SlotStandings) → Holds texts w view vlen ss
+        → SlotsHold texts marks slots us → (X : Transformation) (q : ℕ) → Stands entries X entry q
         → HandsBack texts w′ marks′ slots top len (putBack (lookupOf lines) X (slotsAt (madeBy entries) w slots) (valueAt (madeBy entries) w start len) ss us))
         → PutBy entries lines w marks slots entry start len view vlen top w′ marks′
     by-put f k =
@@ -76,7 +79,8 @@ module _ {entries : List Entry} {lines : List Line} where
         hands (putBackTest (lookupOf lines) P (slotsAt (madeBy entries) w slots) (valueAt (madeBy entries) w start len)) h u (p .meets texts (h .named) (u .named) P q st)
 
     pub by-test : take top w′ ≡ take top w
-        → ((texts : ℕ → List ℕ) (ss : List Standing) (us : SlotStandings) → Holds texts w top len ss → SlotsHold texts marks slots us → (P : Test) (q : ℕ) → StandsTest entries P entry q
+        → ((texts : ℕ → List ℕ) (ss : List Standing) (us : SlotStandings) → Holds texts w top len ss
+        → SlotsHold texts marks slots us → (P : Test) (q : ℕ) → StandsTest entries P entry q
         → HandsBack texts w′ marks′ slots top len (putBackTest (lookupOf lines) P (slotsAt (madeBy entries) w slots) (valueAt (madeBy entries) w start len) ss us))
         → TestPutBy entries lines w marks slots entry start len top w′ marks′
     by-test f k =
@@ -126,34 +130,43 @@ module _ {entries : List Entry} {lines : List Line} {w : List ℕ} {slots : Slot
   pub shown-before : {r : Run} {w₀ : List ℕ} → take top w ≡ take top w₀ → start + len ≤ top → Bound slots top → ShownBy entries lines w slots entry start len top w′ r
       → ShownBy entries lines w₀ slots entry start len top w′ r
   shown-before {w₀ = w₀} f below b s =
-      record { frame = s .frame ∙ f; place = s .place; meets = rw (← (slots-frame (madeBy entries) w₀ w b f), ← (value-frame (madeBy entries) w₀ w top start len f below)) (s .meets) }
+      record {
+        frame = s .frame ∙ f;
+        place = s .place;
+        meets = rw (← (slots-frame (madeBy entries) w₀ w b f), ← (value-frame (madeBy entries) w₀ w top start len f below)) (s .meets);
+      }
 
   pub told : {r r′ : Tested} → TestedBy entries lines w slots entry start len top w′ r → r ≡ r′ → TestedBy entries lines w slots entry start len top w′ r′
   told s e = rw e at s
 
   -- so it may be put back through, also where something was done above the source since
-  pub got-seen : {n : ℕ} → Got entries lines w slots entry start len top w′ n → top + n ≤ length w′ → {w″ : List ℕ} {low : ℕ} → take low w″ ≡ take low w → start + len ≤ low → Bound slots low
+  pub got-seen : {n : ℕ} → Got entries lines w slots entry start len top w′ n → top + n ≤ length w′
+      → {w″ : List ℕ} {low : ℕ} → take low w″ ≡ take low w → start + len ≤ low → Bound slots low
       → Seen entries lines w″ slots entry start len n
   got-seen {n} g fits {w″} {low} f below b =
       record {
-        fits = λ X q st. (valueAt (madeBy entries) w′ top n, rw (slots-frame (madeBy entries) w w″ b f, value-frame (madeBy entries) w w″ low start len f below) (given (g .is X q st)), length-value (madeBy entries) w′ top n fits);
+        fits = λ X q st. (
+          valueAt (madeBy entries) w′ top n,
+          rw (slots-frame (madeBy entries) w w″ b f, value-frame (madeBy entries) w w″ low start len f below) (given (g .is X q st)),
+          length-value (madeBy entries) w′ top n fits,
+        );
       }
 
 -- ## Room for a run below another
 
 pub put-space : {w marks : List ℕ} {slots : SlotWords} {start len view vlen top levels : ℕ} → PutSpace w marks slots start len view vlen top levels
     → {w′ marks′ : List ℕ} {start′ len′ view′ vlen′ top′ levels′ : ℕ} → length w′ ≡ length w → length marks′ ≡ length marks
-    → start′ + len′ ≤ top′ → len′ ≤ 128 → view′ + vlen′ ≤ top′ → top ≤ top′ → top′ + 256 * levels′ ≤ length w
+    → start′ + len′ ≤ top′ → len′ ≤ 128 → view′ + vlen′ ≤ top′ → top ≤ top′ → top′ + 256 * levels′ ≤ top + 256 * levels
     → PutSpace w′ marks′ slots start′ len′ view′ vlen′ top′ levels′
 put-space s {top′ = top′} l m a b c d e =
     let k = s .marks-long in
-    record { below = a; short = b; view-below = c; enough = omega arith; marks-long = omega arith; bound = bound-higher (s .bound) top′ d }
+    record { below = a; short = b; view-below = c; enough = omega arith; low = omega arith; marks-long = omega arith; bound = bound-higher (s .bound) top′ d }
 
 pub show-space : {w marks : List ℕ} {slots : SlotWords} {start len view vlen top levels : ℕ} → PutSpace w marks slots start len view vlen top levels
-    → {w′ : List ℕ} {start′ len′ top′ levels′ : ℕ} → length w′ ≡ length w → start′ + len′ ≤ top′ → len′ ≤ 128 → top ≤ top′ → top′ + 128 * levels′ ≤ length w
+    → {w′ : List ℕ} {start′ len′ top′ levels′ : ℕ} → length w′ ≡ length w → start′ + len′ ≤ top′ → len′ ≤ 128 → top ≤ top′ → top′ + 128 * levels′ ≤ top + 256 * levels
     → Space w′ slots start′ len′ top′ levels′
 show-space s {top′ = top′} l a b d e =
-    record { below = a; short = b; enough = omega arith; bound = bound-higher (s .bound) top′ d }
+    record { below = a; short = b; enough = omega arith; low = omega arith; bound = bound-higher (s .bound) top′ d }
 
 -- ## What a combinator's function stands on
 
@@ -162,6 +175,10 @@ pub record Begun (entries : List Entry) (lines : List Line) (ends w marks : List
   pub room : PutSpace w marks slots start len view vlen top levels
   pub seen : Seen entries lines w slots entry start len vlen
   pub op : (getD entries entry noEntry) .operation ≡ operation
+
+abbrev pub BegunAt : List Entry → List Line → List ℕ → List ℕ → List ℕ → At → ℕ → Type 0
+BegunAt entries lines ends w marks at operation =
+    Begun entries lines ends w marks (at .slots) (at .entry) (at .start) (at .len) (at .view) (at .vlen) (at .top) (at .levels) operation
 
 -- what its sums need
 pub record PutFacts (long entry start len view vlen top levels : ℕ) : Type 0 where
@@ -173,8 +190,12 @@ pub record PutFacts (long entry start len view vlen top levels : ℕ) : Type 0 w
   pub view-below : view + vlen ≤ top
   pub enough : top + 256 * levels ≤ long
 
+abbrev pub PutFactsAt : List ℕ → At → Type 0
+PutFactsAt w at = PutFacts (length w) (at .entry) (at .start) (at .len) (at .view) (at .vlen) (at .top) (at .levels)
+
 pub put-facts : {entries : List Entry} {lines : List Line} {ends w marks : List ℕ} {slots : SlotWords} {entry start len view vlen top levels operation : ℕ}
-    → Begun entries lines ends w marks slots entry start len view vlen top levels operation → 2 ≤ levels → length w < 2 ^ 64 → PutFacts (length w) entry start len view vlen top levels
+    → Begun entries lines ends w marks slots entry start len view vlen top levels operation
+    → 2 ≤ levels → length w < 2 ^ 64 → PutFacts (length w) entry start len view vlen top levels
 put-facts b two fits =
     let h = here (b .ready) in
     let room = b .room in

@@ -60,7 +60,9 @@ module _ (texts : ℕ → List ℕ) {slots : SlotWords} {top : ℕ} (b : Bound s
       let r : length (replicate {A = ℕ} len 0) ≡ len = length-replicate len 0 in
       (inner-length i m, put-other marks (128 * k) (replicate len 0) (omega arith) (128 * i) (getD (slots .lens) i 0) (inl (omega arith)))) in
       record {
-        says = ap (marksTo texts _ (oneMore slots byte start len)) (add-one k) ∙ rw new-length (ap₂ (λ (ss : List Standing) (r : SlotStandings). ss ∷ r) (new .says) (kept .0 ∙ h .says));
+        says =
+            ap (marksTo texts _ (oneMore slots byte start len)) (add-one k)
+            ∙ rw new-length (ap₂ (λ (ss : List Standing) (r : SlotStandings). ss ∷ r) (new .says) (kept .0 ∙ h .says));
         named = subst (NamedTo texts _ (oneMore slots byte start len)) (sym (add-one k)) (rw new-length (new .named, kept .1 (h .named)));
       }
 
@@ -80,7 +82,8 @@ module _ (texts : ℕ → List ℕ) {slots : SlotWords} {top : ℕ} (b : Bound s
 
 -- ## A view merged into the innermost of a byte
 
-module _ (texts : ℕ → List ℕ) (made : Made) (w₀ : List ℕ) {slots : SlotWords} {top : ℕ} (b : Bound slots top) (byte : ℕ) (marks w : List ℕ) (view : ℕ) (ss : List Standing) (long : length marks ≡ 512) where
+module _ (texts : ℕ → List ℕ) (made : Made) (w₀ : List ℕ) {slots : SlotWords} {top : ℕ} (b : Bound slots top)
+    (byte : ℕ) (marks w : List ℕ) (view : ℕ) (ss : List Standing) (long : length marks ≡ 512) where
   -- into slot j
   module _ (j : ℕ) (few : j < slots .count) (fits : view + getD (slots .lens) j 0 ≤ length w) where
     new-fits : 128 * j + length (mergedWords (part marks (128 * j) (getD (slots .lens) j 0)) (part w view (getD (slots .lens) j 0))) ≤ 128 * j + 128
@@ -93,9 +96,18 @@ module _ (texts : ℕ → List ℕ) (made : Made) (w₀ : List ℕ) {slots : Slo
         omega arith
 
     -- the others keep their words
-    merged-other : (i : ℕ) → i < slots .count → (i < j) ⊎ (j < i) → part (mergedAt marks slots j w view) (128 * i) (getD (slots .lens) i 0) ≡ part marks (128 * i) (getD (slots .lens) i 0)
-    merged-other i h (inl l) = let s = b .short i h in let f = b .few in let n = new-fits in put-other marks (128 * j) _ (omega arith) (128 * i) (getD (slots .lens) i 0) (inl (omega arith))
-    merged-other i h (inr l) = let s = b .short i h in let f = b .few in let n = new-fits in put-other marks (128 * j) _ (omega arith) (128 * i) (getD (slots .lens) i 0) (inr (omega arith))
+    merged-other : (i : ℕ) → i < slots .count → (i < j) ⊎ (j < i)
+        → part (mergedAt marks slots j w view) (128 * i) (getD (slots .lens) i 0) ≡ part marks (128 * i) (getD (slots .lens) i 0)
+    merged-other i h (inl l) =
+        let s = b .short i h in
+        let f = b .few in
+        let n = new-fits in
+        put-other marks (128 * j) _ (omega arith) (128 * i) (getD (slots .lens) i 0) (inl (omega arith))
+    merged-other i h (inr l) =
+        let s = b .short i h in
+        let f = b .few in
+        let n = new-fits in
+        put-other marks (128 * j) _ (omega arith) (128 * i) (getD (slots .lens) i 0) (inr (omega arith))
 
     merged-here : Holds texts w view (getD (slots .lens) j 0) ss → AllNamed texts (part marks (128 * j) (getD (slots .lens) j 0))
         → Holds texts (mergedAt marks slots j w view) (128 * j) (getD (slots .lens) j 0) (merged (standingsAt texts marks (128 * j) (getD (slots .lens) j 0)) ss)
@@ -110,19 +122,23 @@ module _ (texts : ℕ → List ℕ) (made : Made) (w₀ : List ℕ) {slots : Slo
       (marksTo texts (mergedAt marks slots j w view) slots k ≡ mergedInto byte (slotsTo made w₀ slots k) ss (marksTo texts marks slots k))
       × NamedTo texts (mergedAt marks slots j w view) slots k
 
-  merged-to : (k : ℕ) → k ≤ slots .count → among byte (bytesTo slots k) ≡ true → view + getD (slots .lens) (innermost (slots .bytes) (slots .count) byte k) 0 ≤ length w
-      → Holds texts w view (getD (slots .lens) (innermost (slots .bytes) (slots .count) byte k) 0) ss → NamedTo texts marks slots k → (innermost (slots .bytes) (slots .count) byte k < k) × MergedTo (innermost (slots .bytes) (slots .count) byte k) k
+  merged-to : (k : ℕ) → k ≤ slots .count → among byte (bytesTo slots k) ≡ true
+      → let j = innermost (slots .bytes) (slots .count) byte k in
+      view + getD (slots .lens) j 0 ≤ length w → Holds texts w view (getD (slots .lens) j 0) ss → NamedTo texts marks slots k
+      → (j < k) × MergedTo j k
   unfolding among bytesTo innermost slotsTo marksTo mergedInto
   merged-to zero few found fits h n = let z : _≡_ {A = ℕ} 0 1 = cc in absurd (omega arith)
   merged-to (suc k) few found fits h n = go (eqb byte (getD (slots .bytes) k 0)) found fits h (λ f l g. merged-to k (omega arith) f l g (n .1))
     where
-      go : (t : Bool) → (t || among byte (bytesTo slots k)) ≡ true → view + getD (slots .lens) (cond t k (innermost (slots .bytes) (slots .count) byte k)) 0 ≤ length w
-          → Holds texts w view (getD (slots .lens) (cond t k (innermost (slots .bytes) (slots .count) byte k)) 0) ss
-          → (among byte (bytesTo slots k) ≡ true → view + getD (slots .lens) (innermost (slots .bytes) (slots .count) byte k) 0 ≤ length w → Holds texts w view (getD (slots .lens) (innermost (slots .bytes) (slots .count) byte k) 0) ss → (innermost (slots .bytes) (slots .count) byte k < k) × MergedTo (innermost (slots .bytes) (slots .count) byte k) k)
-          → (cond t k (innermost (slots .bytes) (slots .count) byte k) < suc k)
-          × ((marksTo texts (mergedAt marks slots (cond t k (innermost (slots .bytes) (slots .count) byte k)) w view) slots (suc k)
-          ≡ cond t (merged (standingsAt texts marks (128 * k) (getD (slots .lens) k 0)) ss ∷ marksTo texts marks slots k) (standingsAt texts marks (128 * k) (getD (slots .lens) k 0) ∷ mergedInto byte (slotsTo made w₀ slots k) ss (marksTo texts marks slots k)))
-          × NamedTo texts (mergedAt marks slots (cond t k (innermost (slots .bytes) (slots .count) byte k)) w view) slots (suc k))
+      go : (t : Bool) → (t || among byte (bytesTo slots k)) ≡ true
+          → let j = innermost (slots .bytes) (slots .count) byte k in
+          view + getD (slots .lens) (cond t k j) 0 ≤ length w → Holds texts w view (getD (slots .lens) (cond t k j) 0) ss
+          → (among byte (bytesTo slots k) ≡ true → view + getD (slots .lens) j 0 ≤ length w → Holds texts w view (getD (slots .lens) j 0) ss → (j < k) × MergedTo j k)
+          → (cond t k j < suc k)
+          × ((marksTo texts (mergedAt marks slots (cond t k j) w view) slots (suc k)
+          ≡ cond t (merged (standingsAt texts marks (128 * k) (getD (slots .lens) k 0)) ss ∷ marksTo texts marks slots k)
+          (standingsAt texts marks (128 * k) (getD (slots .lens) k 0) ∷ mergedInto byte (slotsTo made w₀ slots k) ss (marksTo texts marks slots k)))
+          × NamedTo texts (mergedAt marks slots (cond t k j) w view) slots (suc k))
       go true found fits h ih =
           let new = merged-here k few fits h (n .0) in
           let kept = same-to texts marks (mergedAt marks slots k w view) slots slots k (λ i l. (refl, merged-other k few fits i (omega arith) (inl l))) in
@@ -130,12 +146,20 @@ module _ (texts : ℕ → List ℕ) (made : Made) (w₀ : List ℕ) {slots : Slo
       go false found fits h ih =
           let r = ih found fits h in
           let l = r .0 in
-          let first : part (mergedAt marks slots (innermost (slots .bytes) (slots .count) byte k) w view) (128 * k) (getD (slots .lens) k 0) ≡ part marks (128 * k) (getD (slots .lens) k 0) = merged-other (innermost (slots .bytes) (slots .count) byte k) (omega arith) fits k few (inr l) in
-          (omega arith, (ap₂ (λ (x : List Standing) (r : SlotStandings). x ∷ r) (holds-same {w = marks} first (record { says = refl; named = n .0 }) .says) (r .1 .0), (subst (AllNamed texts) (sym first) (n .0), r .1 .1)))
+          let j = innermost (slots .bytes) (slots .count) byte k in
+          let first : part (mergedAt marks slots j w view) (128 * k) (getD (slots .lens) k 0) ≡ part marks (128 * k) (getD (slots .lens) k 0)
+          = merged-other j (omega arith) fits k few (inr l) in (
+            omega arith,
+            (
+              ap₂ (λ (x : List Standing) (r : SlotStandings). x ∷ r) (holds-same {w = marks} first (record { says = refl; named = n .0 }) .says) (r .1 .0),
+              (subst (AllNamed texts) (sym first) (n .0), r .1 .1),
+            ),
+          )
 
-  pub merged-hold : {us : SlotStandings} → among byte (bytesTo slots (slots .count)) ≡ true → view + getD (slots .lens) (innermost (slots .bytes) (slots .count) byte (slots .count)) 0 ≤ length w
-      → Holds texts w view (getD (slots .lens) (innermost (slots .bytes) (slots .count) byte (slots .count)) 0) ss → SlotsHold texts marks slots us
-      → SlotsHold texts (mergedAt marks slots (innermost (slots .bytes) (slots .count) byte (slots .count)) w view) slots (mergedInto byte (slotsAt made w₀ slots) ss us)
+  pub merged-hold : {us : SlotStandings} → among byte (bytesTo slots (slots .count)) ≡ true
+      → let j = innermost (slots .bytes) (slots .count) byte (slots .count) in
+      view + getD (slots .lens) j 0 ≤ length w → Holds texts w view (getD (slots .lens) j 0) ss → SlotsHold texts marks slots us
+      → SlotsHold texts (mergedAt marks slots j w view) slots (mergedInto byte (slotsAt made w₀ slots) ss us)
   unfolding slotsAt marksAt
   merged-hold {us} found fits h u =
       let r = merged-to (slots .count) (omega arith) found fits h (u .named) .1 in

@@ -47,7 +47,8 @@ pub plain-back : {entries : List Entry} {lines : List Line} {w marks : List ℕ}
     → TestPutBy entries lines w marks slots entry start len top w marks
 plain-back {entries} {lines} {w} {marks} {slots} {entry} {start} {len} {top} h =
     by-test refl λ texts ss us g u P q st.
-    subst (HandsBack texts w marks slots top len) (plain-rule entries (lookupOf lines) P entry q st h (slotsAt (madeBy entries) w slots) (valueAt (madeBy entries) w start len) ss us)
+    subst (HandsBack texts w marks slots top len)
+    (plain-rule entries (lookupOf lines) P entry q st h (slotsAt (madeBy entries) w slots) (valueAt (madeBy entries) w start len) ss us)
     (record { source = g; slots-hold = u })
 
 -- ## 11
@@ -92,11 +93,15 @@ module _ {entries : List Entry} {lines : List Line} {ends w marks : List ℕ} {s
       on-answer (test (lookupOf lines) (compares entry equals Y) env src) (a .0) (a .1) λ p h.
       on-bind (oneText (lookupOf lines) entry src) _ p h λ x i h₁.
       on-bind (show (lookupOf lines) Y env []) _ p h₁ λ o s h₂.
-      on-bind (oneText (lookupOf lines) entry (o .value)) _ p h₂ λ z j h₃.
-      (on-text (lookupOf lines) (λ v _. length v ≡ 1) (λ _ _. refl) entry src x i, gives-long (show (lookupOf lines) Y env []) o 1 s (on-text (lookupOf lines) (λ v _. length v ≡ 1) (λ _ _. refl) entry (o .value) z j))
+      on-bind (oneText (lookupOf lines) entry (o .value)) _ p h₂ λ z j h₃. (
+        on-text (lookupOf lines) (λ v _. length v ≡ 1) (λ _ _. refl) entry src x i,
+        gives-long (show (lookupOf lines) Y env []) o 1 s (on-text (lookupOf lines) (λ v _. length v ≡ 1) (λ _ _. refl) entry (o .value) z j),
+      )
 
   one : len ≡ 1
-  one = let f = at-equals entries (begun .ready .tree) entry (begun .ready .behind) (begun .ready .placed .stands) (begun .op) in sym src-long ∙ equals-shown (f .0) (begun .ready .behind) (f .2) .0
+  one =
+      let f = at-equals entries (begun .ready .tree) entry (begun .ready .behind) (begun .ready .placed .stands) (begun .op) in
+      sym src-long ∙ equals-shown (f .0) (begun .ready .behind) (f .2) .0
 
   module _ {w₁ w₂ : List ℕ} (c₁ : w₁ ≡ putAt w (top + 128) (replicate len 1)) (c₂ : w₂ ≡ putAt w₁ top (mergedWords (part w₁ top len) (part w₁ (top + 128) len))) where
     -- the words at top and the locked ones, merged
@@ -163,7 +168,8 @@ module _ {entries : List Entry} {lines : List Line} {ends w marks : List ℕ} {s
         let view = holds-other both c₂ (fits₂ .0) (inr (fits₂ .1)) lock in
         let i = put-by y view u (t .0) q (t .2) in
         rw (t .1) (subst (HandsBack texts w₃ marks₃ slots top len)
-        (equals-rule (lookupOf lines) entry (t .0) env _ src _ _ rs us (slots-frame (madeBy entries) w w₂ (begun .room .bound) frame₂) (value-none (madeBy entries) w₂ start) (single src (src-long ∙ n)))
+        (equals-rule (lookupOf lines) entry (t .0) env _ src _ _ rs us (slots-frame (madeBy entries) w w₂ (begun .room .bound) frame₂)
+        (value-none (madeBy entries) w₂ start) (single src (src-long ∙ n)))
         (record { source = holds-frame (top + 256) (y .frame) (omega arith) here; slots-hold = i .slots-hold }))
       where
         single : (v : Value) → length v ≡ 1 → allOver locked v ≡ locked ∷ []

@@ -50,7 +50,8 @@ module _ {entries : List Entry} {lines : List Line} {ends w marks : List ℕ} {s
       → (a : Shown) × (show (lookupOf lines) Y env src ≡ gives a) × GivesLong (show (lookupOf lines) Z env (a .value)) vlen
   unfolding Stands show
   then-shown Y Z m q y z =
-      on-long (show (lookupOf lines) (andThen entry Y Z) env src) vlen (begun .seen .fits (andThen entry Y Z) q ((refl, begun .op), (m, subst (λ (j : ℕ). Stands entries Y j m) (add-one entry) y, z))) λ o e l.
+      on-long (show (lookupOf lines) (andThen entry Y Z) env src) vlen
+      (begun .seen .fits (andThen entry Y Z) q ((refl, begun .op), (m, subst (λ (j : ℕ). Stands entries Y j m) (add-one entry) y, z))) λ o e l.
       on-bind (show (lookupOf lines) Y env src) _ o e λ a p e₁.
       on-bind (show (lookupOf lines) Z env (a .value)) _ o e₁ λ b s e₂.
       (a, p, gives-long (show (lookupOf lines) Z env (a .value)) b vlen s (ap (λ (x : Shown). length (x .value)) (gives-inj _ o e₂) ∙ l))
@@ -101,9 +102,11 @@ module _ {entries : List Entry} {lines : List Line} {ends w marks : List ℕ} {s
         let l = length-part w₃ (top + 256) len (omega arith) in
         by-put (kept-below w₃ top (part w₃ (top + 256) len) c (omega arith) ∙ f₃) λ texts ss us g u X q st.
         let t = at-then entries X entry q st (begun .op) in
-        let i = put-by y (holds-frame top (x .frame) v g) u (t .1) q (subst (λ (j : ℕ). Stands entries (t .1) j q) (sym (begun .ready .ended .tree (t .0) (entry + 1) (t .2) (t .4))) (t .5)) in
+        let i = put-by y (holds-frame top (x .frame) v g) u (t .1) q
+        (subst (λ (j : ℕ). Stands entries (t .1) j q) (sym (begun .ready .ended .tree (t .0) (entry + 1) (t .2) (t .4))) (t .5)) in
         let j = put-by z (i .source) (i .slots-hold) (t .0) (t .2) (t .4) in
         let k = subst (HandsBack texts w₃ marks₃ slots (top + 256) len) (then-rule (lookupOf lines) entry (t .0) (t .1) env _ _ src _ _ ss us
-        (slots-frame (madeBy entries) w w₁ (begun .room .bound) (x .frame)) (slots-frame (madeBy entries) w w₂ (begun .room .bound) f₂) (value-frame (madeBy entries) w w₂ top start len f₂ b)
+        (slots-frame (madeBy entries) w w₁ (begun .room .bound) (x .frame))
+        (slots-frame (madeBy entries) w w₂ (begun .room .bound) f₂) (value-frame (madeBy entries) w w₂ top start len f₂ b)
         (got-value x (t .0) (t .2) (t .4))) j in
         rw (t .3) (record { source = holds-copied w₃ c (omega arith) (omega arith) (k .source); slots-hold = k .slots-hold })

@@ -50,19 +50,25 @@ module _ {entries : List Entry} {lines : List Line} {ends w marks : List ℕ} {s
   unfolding Stands show inside
   within-shown Y q y =
       let fits = length-value (madeBy entries) w start len (let b = begun .room .below in let e = begun .room .enough in omega arith) in
-      on-long (show (lookupOf lines) (within entry Y) env src) vlen (begun .seen .fits (within entry Y) q ((refl, begun .op), subst (λ (j : ℕ). Stands entries Y j q) (add-one entry) y)) λ o e l.
+      on-long (show (lookupOf lines) (within entry Y) env src) vlen
+      (begun .seen .fits (within entry Y) q ((refl, begun .op), subst (λ (j : ℕ). Stands entries Y j q) (add-one entry) y)) λ o e l.
       on-bind (oneElement (lookupOf lines) entry src) _ o e λ x p e₁.
       on-bind (show (lookupOf lines) Y env (x .inner)) _ o e₁ λ a s e₂.
       let k : (1 ≤ length src) × GivesLong (show (lookupOf lines) Y env (inside src)) (length (a .value)) =
-      on-element (lookupOf lines) (λ v z. show (lookupOf lines) Y env (z .inner) ≡ gives a → (1 ≤ length v) × GivesLong (show (lookupOf lines) Y env (inside v)) (length (a .value)))
+      on-element (lookupOf lines)
+      (λ v z. show (lookupOf lines) Y env (z .inner) ≡ gives a → (1 ≤ length v) × GivesLong (show (lookupOf lines) Y env (inside v)) (length (a .value)))
       (λ y v _ _ t. (omega arith, gives-long (show (lookupOf lines) Y env (lowered v)) a (length (a .value)) t refl)) entry src x p s in
       let n : suc (length (a .value)) ≡ vlen =
-      on-bounded (λ z. length (z .value) ≡ vlen → suc (length (a .value)) ≡ vlen) entry (x .top ∷ raised (a .value)) (a .compared) o e₂ (λ _ m. ap suc (sym (length-raised (a .value))) ∙ m) l in
+      on-bounded (λ z. length (z .value) ≡ vlen → suc (length (a .value)) ≡ vlen) entry
+      (x .top ∷ raised (a .value)) (a .compared) o e₂ (λ _ m. ap suc (sym (length-raised (a .value))) ∙ m) l in
       let d : length (a .value) ≡ vlen - 1 = omega arith in
       (let f = k .0 in omega arith, omega arith, subst (GivesLong (show (lookupOf lines) Y env (inside src))) d (k .1))
 
-  below-shown : (1 ≤ len) × (1 ≤ vlen) × GivesLong (show (lookupOf lines) (at-within entries (begun .ready .tree) entry (begun .ready .behind) (begun .ready .placed .stands) (begun .op) .0) env (inside src)) (vlen - 1)
-  below-shown = let f = at-within entries (begun .ready .tree) entry (begun .ready .behind) (begun .ready .placed .stands) (begun .op) in within-shown (f .0) (begun .ready .behind) (f .2)
+  below-shown : let f = at-within entries (begun .ready .tree) entry (begun .ready .behind) (begun .ready .placed .stands) (begun .op) in
+      (1 ≤ len) × (1 ≤ vlen) × GivesLong (show (lookupOf lines) (f .0) env (inside src)) (vlen - 1)
+  below-shown =
+      let f = at-within entries (begun .ready .tree) entry (begun .ready .behind) (begun .ready .placed .stands) (begun .op) in
+      within-shown (f .0) (begun .ready .behind) (f .2)
 
   pub within-some : (1 ≤ len) × (1 ≤ vlen)
   within-some = (below-shown .0, below-shown .1)
@@ -124,5 +130,6 @@ module _ {entries : List Entry} {lines : List Line} {ends w marks : List ℕ} {s
         let own = holds-frame (top + 1) g₄ (omega arith) (holds-copied w₂ c₃ (omega arith) (omega arith) (holds-frame top f₂ (omega arith) (cut .0))) in
         let rest = holds-copied w₃ c₄ (omega arith) (omega arith) (holds-other (part w₂ view 1) c₃ (omega arith) (inr (omega arith)) (i .source)) in
         rw (t .1) (subst (HandsBack texts w₄ marks₂ slots top len)
-        (within-rule (lookupOf lines) entry (t .0) env _ src _ ss us (slots-frame (madeBy entries) w w₁ (begun .room .bound) frame₁) contents-at (omega (arith, holds-length g (omega arith))))
+        (within-rule (lookupOf lines) entry (t .0) env _ src _ ss us
+        (slots-frame (madeBy entries) w w₁ (begun .room .bound) frame₁) contents-at (omega (arith, holds-length g (omega arith))))
         (record { source = holds-join (omega arith) own rest; slots-hold = i .slots-hold }))

@@ -89,14 +89,16 @@ module _ {texts : ℕ → List ℕ} where
 
   -- ## Words put into a slice
 
-  holds-put : (w : List ℕ) {w′ : List ℕ} {to len : ℕ} (new : List ℕ) {ss : List Standing} → w′ ≡ putAt w to new → length new ≡ len → to + len ≤ length w → map (standingOf texts) new ≡ ss
+  holds-put : (w : List ℕ) {w′ : List ℕ} {to len : ℕ} (new : List ℕ) {ss : List Standing}
+      → w′ ≡ putAt w to new → length new ≡ len → to + len ≤ length w → map (standingOf texts) new ≡ ss
       → AllNamed texts new → Holds texts w′ to len ss
   unfolding standingsAt
   holds-put w {w′} {to} {len} new p l fits e n =
       let q : part w′ to len ≡ new = ap₂ (λ (x : List ℕ) (k : ℕ). part x to k) p (sym l) ∙ put-part w to new (omega arith) in
       record { says = ap (map (standingOf texts)) q ∙ e; named = subst (AllNamed texts) (sym q) n }
 
-  pub holds-copied : {w₀ : List ℕ} (w : List ℕ) {w′ : List ℕ} {from to len : ℕ} {ss : List Standing} → w′ ≡ putAt w to (part w₀ from len) → from + len ≤ length w₀ → to + len ≤ length w
+  pub holds-copied : {w₀ : List ℕ} (w : List ℕ) {w′ : List ℕ} {from to len : ℕ} {ss : List Standing}
+      → w′ ≡ putAt w to (part w₀ from len) → from + len ≤ length w₀ → to + len ≤ length w
       → Holds texts w₀ from len ss → Holds texts w′ to len ss
   unfolding standingsAt
   holds-copied {w₀} w {w′} {from} {to} {len} p fits₀ fits h = holds-put w (part w₀ from len) p (length-part w₀ from len fits₀) fits (h .says) (h .named)
@@ -104,13 +106,16 @@ module _ {texts : ℕ → List ℕ} where
   holds-filled : (x : ℕ) (v : Value) (w : List ℕ) {w′ : List ℕ} {to len : ℕ} → x < 4 → w′ ≡ putAt w to (replicate len x) → length v ≡ len → to + len ≤ length w
       → Holds texts w′ to len (allOver (standingOf texts x) v)
   holds-filled x v w {w′} {to} {len} low p l fits =
-      holds-put w (replicate len x) p (length-replicate len x) fits (ap (λ (n : ℕ). map (standingOf texts) (replicate n x)) (sym l) ∙ filled-over texts x v) (named-low texts len x low)
+      holds-put w (replicate len x) p (length-replicate len x) fits
+      (ap (λ (n : ℕ). map (standingOf texts) (replicate n x)) (sym l) ∙ filled-over texts x v) (named-low texts len x low)
 
-  pub holds-untouched : (v : Value) (w : List ℕ) {w′ : List ℕ} {to len : ℕ} → w′ ≡ putAt w to (replicate len 0) → length v ≡ len → to + len ≤ length w → Holds texts w′ to len (allOver untouched v)
+  pub holds-untouched : (v : Value) (w : List ℕ) {w′ : List ℕ} {to len : ℕ} → w′ ≡ putAt w to (replicate len 0)
+      → length v ≡ len → to + len ≤ length w → Holds texts w′ to len (allOver untouched v)
   unfolding standingOf
   holds-untouched v w = holds-filled 0 v w (omega arith)
 
-  pub holds-locked : (v : Value) (w : List ℕ) {w′ : List ℕ} {to len : ℕ} → w′ ≡ putAt w to (replicate len 1) → length v ≡ len → to + len ≤ length w → Holds texts w′ to len (allOver locked v)
+  pub holds-locked : (v : Value) (w : List ℕ) {w′ : List ℕ} {to len : ℕ} → w′ ≡ putAt w to (replicate len 1)
+      → length v ≡ len → to + len ≤ length w → Holds texts w′ to len (allOver locked v)
   unfolding standingOf
   holds-locked v w = holds-filled 1 v w (omega arith)
 
@@ -121,10 +126,12 @@ module _ {texts : ℕ → List ℕ} where
       let pa = length-part a start len la in
       let pb = length-part b view len lb in
       let m = merged-words texts (part a start len) (part b view len) (pa ∙ sym pb) (g .named) (h .named) in
-      holds-put w (mergedWords (part a start len) (part b view len)) p (merged-length (part a start len) (part b view len) (pa ∙ sym pb) ∙ pa) fits (m .0 ∙ ap₂ merged (g .says) (h .says)) (m .1)
+      holds-put w (mergedWords (part a start len) (part b view len)) p
+      (merged-length (part a start len) (part b view len) (pa ∙ sym pb) ∙ pa) fits (m .0 ∙ ap₂ merged (g .says) (h .says)) (m .1)
 
   -- what stands before them or behind them
-  pub holds-other : {w w′ : List ℕ} {to : ℕ} (new : List ℕ) {start len : ℕ} {ss : List Standing} → w′ ≡ putAt w to new → to + length new ≤ length w → (start + len ≤ to) ⊎ (to + length new ≤ start)
+  pub holds-other : {w w′ : List ℕ} {to : ℕ} (new : List ℕ) {start len : ℕ} {ss : List Standing}
+      → w′ ≡ putAt w to new → to + length new ≤ length w → (start + len ≤ to) ⊎ (to + length new ≤ start)
       → Holds texts w start len ss → Holds texts w′ start len ss
   holds-other {w} {w′} {to} new {start} {len} p fits side h = holds-same (ap (λ (l : List ℕ). part l start len) p ∙ put-other w to new fits start len side) h
 

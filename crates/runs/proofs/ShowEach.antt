@@ -55,8 +55,10 @@ module _ (made : Made) (w : List ℕ) (s l k : ℕ) (some : 0 < l) (fits : s + l
       ap items (first-rest made w s l fits some)
       ∙ items-cons (nodeOf made (getD w s 0)) rest
       ∙ ap₂ (λ (u o : Value). (nodeOf made (getD w s 0) ∷ u) ∷ items o)
-      (sym (take-at (under rest) (onward rest) (k - 1) under-long) ∙ ap (take (k - 1)) in-two ∙ take-at (valueAt made w (s + 1) (k - 1)) (valueAt made w (s + k) (l - k)) (k - 1) first-long)
-      (sym (drop-at (under rest) (onward rest) (k - 1) under-long) ∙ ap (drop (k - 1)) in-two ∙ drop-at (valueAt made w (s + 1) (k - 1)) (valueAt made w (s + k) (l - k)) (k - 1) first-long)
+      (sym (take-at (under rest) (onward rest) (k - 1) under-long) ∙ ap (take (k - 1)) in-two
+      ∙ take-at (valueAt made w (s + 1) (k - 1)) (valueAt made w (s + k) (l - k)) (k - 1) first-long)
+      (sym (drop-at (under rest) (onward rest) (k - 1) under-long) ∙ ap (drop (k - 1)) in-two
+      ∙ drop-at (valueAt made w (s + 1) (k - 1)) (valueAt made w (s + k) (l - k)) (k - 1) first-long)
       ∙ ap (λ (v : Value). v ∷ items (valueAt made w (s + k) (l - k))) (sym (first-rest made w s k (omega arith) (omega arith)))
 
 -- ## The loop
@@ -72,7 +74,8 @@ module _ (entries : List Entry) (lines : List Line) (w₀ : List ℕ) (slots : S
     pub frame : take top w ≡ take top w₀
     pub kept : length w ≡ length w₀
     pub goes : (Y : Transformation) (q : ℕ) → Stands entries Y (entry + 1) q
-        → turns Y 0 (items (valueAt (madeBy entries) w₀ start len)) ≡ behind (valueAt (madeBy entries) w top n) (turns Y n (items (valueAt (madeBy entries) w₀ (start + at) (len - at))))
+        → turns Y 0 (items (valueAt (madeBy entries) w₀ start len))
+        ≡ behind (valueAt (madeBy entries) w top n) (turns Y n (items (valueAt (madeBy entries) w₀ (start + at) (len - at))))
 
   pub each-starts : Going w₀ 0 0
   each-starts =
@@ -89,7 +92,8 @@ module _ (entries : List Entry) (lines : List Line) (w₀ : List ℕ) (slots : S
             ∙ sym (ap₂ (λ (i j : ℕ). turns Y 0 (items (valueAt (madeBy entries) w₀ i j))) a b));
       }
 
-  module _ (op : (getD entries entry noEntry) .operation ≡ 0x0A) (bound : Bound slots top) (below : start + len ≤ top) (room : top + 256 ≤ length w₀) {w : List ℕ} {at n : ℕ} (g : Going w at n) where
+  module _ (op : (getD entries entry noEntry) .operation ≡ 0x0A) (bound : Bound slots top)
+      (below : start + len ≤ top) (room : top + 256 ≤ length w₀) {w : List ℕ} {at n : ℕ} (g : Going w at n) where
     abbrev there : Value
     there = valueAt (madeBy entries) w top n
 
@@ -99,7 +103,8 @@ module _ (entries : List Entry) (lines : List Line) (w₀ : List ℕ) (slots : S
     unfolding show
     whole X q st =
         let f = at-each entries X entry q st op in
-        ap (λ (A : Transformation). valueOnly (show (lookupOf lines) A (slotsAt (madeBy entries) w₀ slots) (valueAt (madeBy entries) w₀ start len))) (f .1) ∙ g .goes (f .0) q (f .2)
+        ap (λ (A : Transformation). valueOnly (show (lookupOf lines) A (slotsAt (madeBy entries) w₀ slots) (valueAt (madeBy entries) w₀ start len))) (f .1)
+        ∙ g .goes (f .0) q (f .2)
 
     pub each-done : len ≤ at → ShownBy entries lines w₀ slots entry start len top w (ran.Value (record { start = top; len = n }))
     unfolding items
@@ -110,7 +115,8 @@ module _ (entries : List Entry) (lines : List Line) (w₀ : List ℕ) (slots : S
           meets = λ X q st.
               let z : len - at ≡ 0 = omega arith in
               sym (whole X q st
-              ∙ ap (λ (v : Value). behind there (turns (at-each entries X entry q st op .0) n (items v))) (ap (valueAt (madeBy entries) w₀ (start + at)) z ∙ value-none (madeBy entries) w₀ (start + at))
+              ∙ ap (λ (v : Value). behind there (turns (at-each entries X entry q st op .0) n (items v)))
+              (ap (valueAt (madeBy entries) w₀ (start + at)) z ∙ value-none (madeBy entries) w₀ (start + at))
               ∙ ap (behind there) (sym (turn-ends entry n))
               ∙ ap gives (append-nil there));
         }
@@ -121,7 +127,8 @@ module _ (entries : List Entry) (lines : List Line) (w₀ : List ℕ) (slots : S
 
       -- the next item is run where the loop stands
       turn : (Y : Transformation) → turns Y n (items (valueAt (madeBy entries) w₀ (start + at) (len - at)))
-          ≡ valueOnly (inTurn entry n (show (lookupOf lines) Y (slotsAt (madeBy entries) w slots) (valueAt (madeBy entries) w (start + at) k) ∷ map (show (lookupOf lines) Y (slotsAt (madeBy entries) w₀ slots)) later))
+          ≡ valueOnly (inTurn entry n (show (lookupOf lines) Y (slotsAt (madeBy entries) w slots) (valueAt (madeBy entries) w (start + at) k)
+          ∷ map (show (lookupOf lines) Y (slotsAt (madeBy entries) w₀ slots)) later))
       turn Y =
           let m = g .most in
           let l = g .kept in
@@ -132,10 +139,12 @@ module _ (entries : List Entry) (lines : List Line) (w₀ : List ℕ) (slots : S
           ∙ first-item (madeBy entries) w (start + at) (len - at) k (omega arith) (omega arith) item
           ∙ ap (λ (v : Value). valueAt (madeBy entries) w (start + at) k ∷ items v)
           (value-frame (madeBy entries) w₀ w top (start + at + k) (len - at - k) (g .frame) (omega arith) ∙ ap₂ (valueAt (madeBy entries) w₀) i j))
-          ∙ ap (λ (S : _). valueOnly (inTurn entry n (show (lookupOf lines) Y S (valueAt (madeBy entries) w (start + at) k) ∷ map (show (lookupOf lines) Y (slotsAt (madeBy entries) w₀ slots)) later)))
+          ∙ ap (λ (S : _). valueOnly (inTurn entry n (show (lookupOf lines) Y S (valueAt (madeBy entries) w (start + at) k)
+          ∷ map (show (lookupOf lines) Y (slotsAt (madeBy entries) w₀ slots)) later)))
           (sym (slots-frame (madeBy entries) w₀ w bound (g .frame)))
 
-      pub each-stop : {w′ : List ℕ} {s : Stop} → Halted entries lines w slots (entry + 1) (start + at) k (top + n) w′ s → ShownBy entries lines w₀ slots entry start len top w′ (ran.Stop s)
+      pub each-stop : {w′ : List ℕ} {s : Stop} → Halted entries lines w slots (entry + 1) (start + at) k (top + n) w′ s
+          → ShownBy entries lines w₀ slots entry start len top w′ (ran.Stop s)
       each-stop {w′} {s} x =
           record {
             frame = frame-less w w′ (top + n) top (x .frame) (omega arith) ∙ g .frame;

@@ -1,6 +1,6 @@
 -- What the code of a run knows at its entry, and what the operations with nothing below show.
 use mathlib.Core.Path.{_≡_, refl, ap}
-use mathlib.Core.List.{List, [], _∷_, map}
+use mathlib.Core.List.{List, [], _∷_}
 use mathlib.Core.Logic.{_⊎_, inl, inr}
 use Prim.Native.Nat.{ℕ, suc, _+_, _-_, _*_, _^_, _/_, _%_, _≤_, _<_}
 use native.Mathlib.Omega.{arith}
@@ -12,6 +12,7 @@ use Rattle.lines.specs.Entries.{Entry, entryAt, slotOf, textOf}
 use Rattle.values.specs.Values.{program}
 use Rattle.values.specs.Words.{Made, originOf, nodeOf, valueAt}
 use Rattle.values.specs.Theorems.WordLaws.{value-none}
+use Rattle.runs.specs.declared.at.At.{At}
 use Rattle.runs.specs.declared.slots.Slots.{Slots as SlotWords}
 use Rattle.runs.specs.declared.stop.Run.{Run}
 use Rattle.runs.specs.declared.stop.Run.the-variants as ran
@@ -20,7 +21,7 @@ use Rattle.runs.specs.Results.{gives}
 use Rattle.runs.specs.Programs.{contents, tagged, isElement}
 use Rattle.runs.specs.Reading.{noEntry}
 use Rattle.runs.specs.Showing.{valueIn, show, test}
-use Rattle.runs.specs.Runs.{madeBy, lookupOf, slotsAt, Space, valueOnly, yesOnly, saidOf, ShownBy, TestedBy}
+use Rattle.runs.specs.Runs.{entriesOf, madeBy, lookupOf, slotsAt, Space, valueOnly, yesOnly, saidOf, ShownBy, TestedBy}
 use Rattle.runs.specs.Leaves.{Leaves}
 use Rattle.runs.proofs.Trees.{Here, at-source, at-nothing, at-text, at-tag, at-slot, at-contents, at-tagged, at-element}
 use Rattle.runs.proofs.ShowRuns.{leaf}
@@ -37,12 +38,16 @@ pub record Facts (entries : List Entry) (ends w : List ℕ) (slots : SlotWords) 
   pub two : 2 ≤ levels
   pub fits : length w * 4 < 2 ^ 63
 
+abbrev pub FactsAt : List Entry → List ℕ → List ℕ → At → ℕ → Type 0
+FactsAt entries ends w at t = Facts entries ends w (at .slots) (at .entry) (at .start) (at .len) (at .top) (at .levels) t
+
 pub facts : {entries : List Entry} {ends w : List ℕ} {slots : SlotWords} {entry start len top levels t : ℕ}
-    → 2 * levels ≡ t → Space w slots start len top levels → length w * 4 < 2 ^ 63 → Here entries ends (entry + 1) (levels - 1) → Facts entries ends w slots entry start len top levels t
+    → 2 * levels ≡ t → Space w slots start len top levels → length w * 4 < 2 ^ 63
+    → Here entries ends (entry + 1) (levels - 1) → Facts entries ends w slots entry start len top levels t
 facts m s f h = let l = h .some in record { measure = m; space = s; few = h .few; long = h .long; inside = h .inside; two = omega arith; fits = f }
 
 -- an entry has its line's start
-pub in-starts : (prog starts : List ℕ) {ends : List ℕ} {entry levels : ℕ} → Here (map (entryAt prog) starts) ends entry levels → entry < length starts
+pub in-starts : (prog starts : List ℕ) {ends : List ℕ} {entry levels : ℕ} → Here (entriesOf prog starts) ends entry levels → entry < length starts
 in-starts prog starts h = let l = length-map starts (entryAt prog) in let i = h .inside in omega arith
 
 -- any entry
@@ -54,9 +59,12 @@ pub record AtEntry (entries : List Entry) (ends starts w : List ℕ) (slots : Sl
   pub some : 1 ≤ levels
   pub fits : length w * 4 < 2 ^ 63
 
+abbrev pub AtEntryAt : List Entry → List ℕ → List ℕ → List ℕ → At → ℕ → Type 0
+AtEntryAt entries ends starts w at t = AtEntry entries ends starts w (at .slots) (at .entry) (at .start) (at .len) (at .top) (at .levels) t
+
 pub at-entry : (prog starts : List ℕ) {ends w : List ℕ} {slots : SlotWords} {entry start len top levels t : ℕ}
-    → 2 * levels + 1 ≡ t → Space w slots start len top levels → length w * 4 < 2 ^ 63 → Here (map (entryAt prog) starts) ends entry levels
-    → AtEntry (map (entryAt prog) starts) ends starts w slots entry start len top levels t
+    → 2 * levels + 1 ≡ t → Space w slots start len top levels → length w * 4 < 2 ^ 63 → Here (entriesOf prog starts) ends entry levels
+    → AtEntry (entriesOf prog starts) ends starts w slots entry start len top levels t
 at-entry prog starts m s f h =
     let i = h .inside in
     let n = h .few in
@@ -82,7 +90,9 @@ only-made {o} {r} e a b n = go (past 2 r (past 1 r a (n .0 .0 .0 .0 .0 .0 .0 .0 
 pub only-bind : {r : ℕ} → 1 ≤ r → r < 13 → (r < 1) ⊎ (5 ≤ r) → NoOther r → r ≡ 12
 only-bind {r} low high (inl h) n = absurd (omega arith)
 only-bind {r} low high (inr h) n =
-    let l = past 11 r (past 10 r (past 9 r (past 8 r (past 7 r (past 6 r (past 5 r h (n .0 .0 .0 .0 .0 .0 .1)) (n .0 .0 .0 .0 .0 .1)) (n .0 .0 .0 .0 .1)) (n .0 .0 .0 .1)) (n .0 .0 .1)) (n .0 .1)) (n .1) in
+    let past-seven : 8 ≤ r = past 7 r (past 6 r (past 5 r h (n .0 .0 .0 .0 .0 .0 .1)) (n .0 .0 .0 .0 .0 .1)) (n .0 .0 .0 .0 .1) in
+    let past-ten : 11 ≤ r = past 10 r (past 9 r (past 8 r past-seven (n .0 .0 .0 .1)) (n .0 .0 .1)) (n .0 .1) in
+    let l = past 11 r past-ten (n .1) in
     only-last r l high
   where
     only-last : (r : ℕ) → 12 ≤ r → r < 13 → r ≡ 12
@@ -100,7 +110,8 @@ made-node b entry h =
     rw (d, o, le-ltb (0x8000 + entry) 0x8000 (omega arith), e)
 
 module _ {entries : List Entry} {lines : List Line} {w : List ℕ} {slots : SlotWords} {entry start len top : ℕ} {w′ : List ℕ} {r : Run} where
-  pub shows-source : (getD entries entry noEntry) .operation ≡ 0x01 → Leaves (madeBy entries) w top w′ r (gives (valueAt (madeBy entries) w start len)) → ShownBy entries lines w slots entry start len top w′ r
+  pub shows-source : (getD entries entry noEntry) .operation ≡ 0x01
+      → Leaves (madeBy entries) w top w′ r (gives (valueAt (madeBy entries) w start len)) → ShownBy entries lines w slots entry start len top w′ r
   unfolding show
   shows-source o l = leaf l (λ X q st. rw (at-source entries X entry q st o))
 
@@ -110,7 +121,8 @@ module _ {entries : List Entry} {lines : List Line} {w : List ℕ} {slots : Slot
   shows-slot o e l = leaf l (λ X q st. rw (at-slot entries X entry q st o) (ap (λ (k : ℕ). gives (valueIn k (slotsAt (madeBy entries) w slots))) e))
 
   pub shows-contents : (getD entries entry noEntry) .operation ≡ 0x06
-      → Leaves (madeBy entries) w top w′ r (valueOnly (show (lookupOf lines) (contents entry) [] (valueAt (madeBy entries) w start len))) → ShownBy entries lines w slots entry start len top w′ r
+      → Leaves (madeBy entries) w top w′ r (valueOnly (show (lookupOf lines) (contents entry) [] (valueAt (madeBy entries) w start len)))
+      → ShownBy entries lines w slots entry start len top w′ r
   unfolding show
   shows-contents o l = leaf l (λ X q st. rw (at-contents entries X entry q st o))
 
@@ -128,7 +140,8 @@ shows-nothing {entries} {lines} {w} {slots} {entry} {start} {len} {top} o =
 
 module _ {entries : List Entry} {lines : List Line} {w : List ℕ} {slots : SlotWords} {entry start len top : ℕ} {r : Tested} where
   pub tests-tag : (getD entries entry noEntry) .operation ≡ 0x12
-      → saidOf r ≡ yesOnly (test (lookupOf lines) (tagged entry (textOf (getD entries entry noEntry))) [] (valueAt (madeBy entries) w start len)) → TestedBy entries lines w slots entry start len top w r
+      → saidOf r ≡ yesOnly (test (lookupOf lines) (tagged entry (textOf (getD entries entry noEntry))) [] (valueAt (madeBy entries) w start len))
+      → TestedBy entries lines w slots entry start len top w r
   unfolding test
   tests-tag o e = record { frame = refl; meets = λ P q st. rw (at-tagged entries P entry q st o) e }
 

@@ -52,7 +52,8 @@ module _ (made : Made) (w : List ℕ) (top : ℕ) where
       → Leaves made w top w′ (ran.Value (record { start = top; len = len })) (gives (lowered (valueAt made w start len)))
   unfolding valueAt
   lowered-put start len p fits few room =
-      leaves (map loweredWord (part w start len)) len p (length-map (part w start len) loweredWord ∙ length-part w start len fits) few (omega arith) (lowered-words made (part w start len))
+      leaves (map loweredWord (part w start len)) len p (length-map (part w start len) loweredWord ∙ length-part w start len fits) few
+      (omega arith) (lowered-words made (part w start len))
 
   -- 06
   module _ (look : Lookup) (start len entry : ℕ) (fits : start + len ≤ length w) where

@@ -1,6 +1,6 @@
 -- What a combinator leaves, by what the runs below it leave: one law a return.
 use mathlib.Core.Path.{_≡_, refl, sym, _∙_, ap, ap₂, subst}
-use mathlib.Core.Bool.{Bool, true, false}
+use mathlib.Core.Bool.{Bool, true, false, cond}
 use mathlib.Core.List.{List, [], _∷_, _++_, append-nil}
 use Prim.Native.Nat.{ℕ, _+_, _≤_, _<_}
 use native.Mathlib.Nat.{zero-add}
@@ -15,7 +15,7 @@ use Rattle.values.specs.Words.{part, valueAt}
 use Rattle.values.specs.Theorems.Extents.{frame-less}
 use Rattle.values.specs.Theorems.WordLaws.{length-value, value-none, value-join, value-frame}
 use Rattle.runs.specs.declared.slots.Slots.{Slots as SlotWords}
-use Rattle.runs.specs.declared.stop.Extent.{Extent}
+use Rattle.values.specs.declared.extents.Extent.{Extent}
 use Rattle.runs.specs.declared.stop.Stop.{Stop}
 use Rattle.runs.specs.declared.stop.Stop.the-variants.{Size}
 use Rattle.runs.specs.declared.stop.Run.{Run}
@@ -27,15 +27,17 @@ use Rattle.runs.specs.Programs.{Transformation, choose, Test}
 use Rattle.runs.specs.Reading.{noEntry}
 use Rattle.runs.specs.Showing.{Slots, Shown, inTurn, show, test}
 use Rattle.runs.specs.Trees.{Stands, StandsTest}
+use Rattle.runs.specs.Ends.{branchAt}
 use Rattle.runs.specs.Runs.{madeBy, lookupOf, slotsAt, Ended, Bound, saidOf, valueOnly, ShownBy, TestedBy}
 use Rattle.runs.specs.Theorems.Combinators.{branchRun}
 use Rattle.runs.specs.Theorems.Combinators.{bound as bound-as}
 use Rattle.runs.specs.SlotWords.{oneMore}
 use Rattle.runs.specs.Leaves.{Leaves}
 use Rattle.runs.proofs.SlotLaws.{slots-frame, more-at}
-use Rattle.runs.proofs.Trees.{at-then, at-beside, at-choose, at-bind}
+use Rattle.runs.proofs.Trees.{at-then, at-beside, at-choose, at-bind, branch-stands}
 use Rattle.runs.proofs.ShowLeaves.{copied}
-use Rattle.runs.proofs.ShowRules.{Gave, gave, stopped, then-first-stops, then-stops, then-gives, behind, turn-ends, turn-stops, turn-large, turn-goes-on, choose-stops, choose-says}
+use Rattle.runs.proofs.ShowRules.{Gave, gave, stopped, then-first-stops, then-stops, then-gives, behind}
+use Rattle.runs.proofs.ShowRules.{turn-ends, turn-stops, turn-large, turn-goes-on, choose-stops, choose-says}
 
 -- ## What is known where a run gave a value, and where it stopped
 
@@ -52,7 +54,8 @@ module _ (entries : List Entry) (lines : List Line) where
     pub is : (X : Transformation) (q : ℕ) → Stands entries X entry q
         → show (lookupOf lines) X (slotsAt (madeBy entries) w slots) (valueAt (madeBy entries) w start len) ≡ stops s
 
-module _ {entries : List Entry} {lines : List Line} {w : List ℕ} {slots : SlotWords} {entry start len top : ℕ} {w′ : List ℕ} {r : Run} (x : ShownBy entries lines w slots entry start len top w′ r) where
+module _ {entries : List Entry} {lines : List Line} {w : List ℕ} {slots : SlotWords} {entry start len top : ℕ}
+    {w′ : List ℕ} {r : Run} (x : ShownBy entries lines w slots entry start len top w′ r) where
   pub got : length w′ ≡ length w → (v : Extent) → r ≡ ran.Value v → Got entries lines w slots entry start len top w′ (v .len)
   got k v e =
       let y : ShownBy entries lines w slots entry start len top w′ (ran.Value v) = rw e at x in
@@ -86,7 +89,8 @@ second-stands : (entries : List Entry) {ends : List ℕ} → Ended entries ends 
 second-stands entries ended {second} p e Y Z m q s t = subst (λ (k : ℕ). Stands entries Z k q) (sym (e ∙ ended .tree Y p m s)) t
 
 -- while nothing below top has changed, a run on the same source is the same
-module _ (entries : List Entry) (lines : List Line) (w w₁ : List ℕ) {slots : SlotWords} {top : ℕ} (bound : Bound slots top) (frame : take top w₁ ≡ take top w) (start len : ℕ) (below : start + len ≤ top) where
+module _ (entries : List Entry) (lines : List Line) (w w₁ : List ℕ) {slots : SlotWords} {top : ℕ}
+    (bound : Bound slots top) (frame : take top w₁ ≡ take top w) (start len : ℕ) (below : start + len ≤ top) where
   pub same-run : (X : Transformation) → show (lookupOf lines) X (slotsAt (madeBy entries) w slots) (valueAt (madeBy entries) w start len)
       ≡ show (lookupOf lines) X (slotsAt (madeBy entries) w₁ slots) (valueAt (madeBy entries) w₁ start len)
   same-run X = sym (ap₂ (show (lookupOf lines) X) (slots-frame (madeBy entries) w w₁ bound frame) (value-frame (madeBy entries) w w₁ top start len frame below))
@@ -105,7 +109,8 @@ module _ {entries : List Entry} {lines : List Line} {w : List ℕ} {slots : Slot
             rw (f .3) (then-first-stops (show (lookupOf lines) (f .0)) (show (lookupOf lines) (f .1)) _ _ s (x .is (f .0) (f .2) (f .4)));
       }
 
-  module _ {ends : List ℕ} (ended : Ended entries ends) (bound : Bound slots top) {w₁ : List ℕ} {n : ℕ} (x : Got entries lines w slots (entry + 1) start len top w₁ n) {second : ℕ} (e : second ≡ getD ends (entry + 1) 0) where
+  module _ {ends : List ℕ} (ended : Ended entries ends) (bound : Bound slots top) {w₁ : List ℕ} {n : ℕ}
+      (x : Got entries lines w slots (entry + 1) start len top w₁ n) {second : ℕ} (e : second ≡ getD ends (entry + 1) 0) where
     pub then-second : {w₂ : List ℕ} {s : Stop} → Halted entries lines w₁ slots second top n (top + 128) w₂ s → ShownBy entries lines w slots entry start len top w₂ (ran.Stop s)
     unfolding show
     then-second {w₂} {s} y =
@@ -152,7 +157,8 @@ module _ {entries : List Entry} {lines : List Line} {w : List ℕ} {slots : Slot
         meets = λ X q st. let f = at-beside entries X entry q st op in rw (f .3) (sym (turn-stops entry 0 _ _ s (x .is (f .0) (f .2) (f .4))));
       }
 
-  module _ {ends : List ℕ} (ended : Ended entries ends) (bound : Bound slots top) (below : start + len ≤ top) {w₁ : List ℕ} {n : ℕ} (x : Got entries lines w slots (entry + 1) start len top w₁ n)
+  module _ {ends : List ℕ} (ended : Ended entries ends) (bound : Bound slots top) (below : start + len ≤ top)
+      {w₁ : List ℕ} {n : ℕ} (x : Got entries lines w slots (entry + 1) start len top w₁ n)
       (room : top + 128 ≤ length w₁) {second : ℕ} (e : second ≡ getD ends (entry + 1) 0) where
     abbrev after-first : Transformation → Result Stop Value
     after-first Z =
@@ -161,7 +167,8 @@ module _ {entries : List Entry} {lines : List Line} {w : List ℕ} {slots : Slot
 
     -- the first part fits; the second then runs on the same source
     beside-rest : (X : Transformation) (q : ℕ) → Stands entries X entry q
-        → (Z : Transformation) × Stands entries Z second q × (valueOnly (show (lookupOf lines) X (slotsAt (madeBy entries) w slots) (valueAt (madeBy entries) w start len)) ≡ after-first Z)
+        → (Z : Transformation) × Stands entries Z second q
+        × (valueOnly (show (lookupOf lines) X (slotsAt (madeBy entries) w slots) (valueAt (madeBy entries) w start len)) ≡ after-first Z)
     unfolding show
     beside-rest X q st =
         let f = at-beside entries X entry q st op in
@@ -207,7 +214,9 @@ module _ {entries : List Entry} {lines : List Line} {w : List ℕ} {slots : Slot
                 let r = beside-rest X q st in
                 let l = length-value (madeBy entries) w₂ (top + n) m fits in
                 sym (r .2
-                ∙ ap (behind (valueAt (madeBy entries) w₁ top n)) (turn-goes-on entry n _ [] _ (y .is (r .0) q (r .1)) (omega arith) ∙ ap (behind (valueAt (madeBy entries) w₂ (top + n) m)) (sym (turn-ends entry _)))
+                ∙ ap (behind (valueAt (madeBy entries) w₁ top n))
+                (turn-goes-on entry n _ [] _ (y .is (r .0) q (r .1)) (omega arith)
+                ∙ ap (behind (valueAt (madeBy entries) w₂ (top + n) m)) (sym (turn-ends entry _)))
                 ∙ ap gives (ap (λ (v : Value). valueAt (madeBy entries) w₁ top n ++ v) (append-nil _) ∙ one-value entries w₁ w₂ top n m (y .frame)));
           }
 
@@ -223,47 +232,41 @@ module _ {entries : List Entry} {lines : List Line} {w : List ℕ} {slots : Slot
           place = tt;
           meets = λ X q st.
               let f = at-choose entries X entry q st op in
-              rw (f .5) (choose-stops (test (lookupOf lines) (f .0)) (show (lookupOf lines) (f .1)) (show (lookupOf lines) (f .2)) _ _ s (ap saidOf (sym h) ∙ x .meets (f .0) (f .3) (f .6)));
+              rw (f .5)
+              (choose-stops (test (lookupOf lines) (f .0)) (show (lookupOf lines) (f .1))
+              (show (lookupOf lines) (f .2)) _ _ s (ap saidOf (sym h) ∙ x .meets (f .0) (f .3) (f .6)));
         }
 
     module _ {ends : List ℕ} (ended : Ended entries ends) (bound : Bound slots top) (below : start + len ≤ top) (b : Bool) (h : r ≡ tested.Says b) where
       -- what the test says decides which run is the entry's
-      decided : (X : Transformation) (q : ℕ) (f : (P : Test) × (Y : Transformation) × (Z : Transformation) × (l : ℕ) × (m : ℕ) × (X ≡ choose entry P Y Z) × StandsTest entries P (entry + 1) l × Stands entries Y l m × Stands entries Z m q)
+      decided : (X : Transformation) (q : ℕ) (f : (P : Test) × (Y : Transformation) × (Z : Transformation) × (l : ℕ) × (m : ℕ) × (X ≡ choose entry P Y Z)
+          × StandsTest entries P (entry + 1) l × Stands entries Y l m × Stands entries Z m q)
           → valueOnly (branchRun b (show (lookupOf lines) (f .1)) (show (lookupOf lines) (f .2)) (slotsAt (madeBy entries) w slots) (valueAt (madeBy entries) w start len))
           ≡ valueOnly (show (lookupOf lines) X (slotsAt (madeBy entries) w slots) (valueAt (madeBy entries) w start len))
       unfolding show
       decided X q f =
-          rw (f .5) (choose-says (test (lookupOf lines) (f .0)) (show (lookupOf lines) (f .1)) (show (lookupOf lines) (f .2)) _ _ b (ap saidOf (sym h) ∙ x .meets (f .0) (f .3) (f .6)))
+          rw (f .5)
+          (choose-says (test (lookupOf lines) (f .0)) (show (lookupOf lines) (f .1))
+          (show (lookupOf lines) (f .2)) _ _ b (ap saidOf (sym h) ∙ x .meets (f .0) (f .3) (f .6)))
 
-      first-after : {first : ℕ} → first ≡ getD ends (entry + 1) 0 → (P : Test) (l : ℕ) → StandsTest entries P (entry + 1) l → first ≡ l
-      first-after e P l s = e ∙ ended .test P (entry + 1) l s
-
-      pub choose-yes : b ≡ true → {first : ℕ} → first ≡ getD ends (entry + 1) 0 → {w₂ : List ℕ} {z : Run} → ShownBy entries lines w₁ slots first start len top w₂ z
+      pub choose-done : {w₂ : List ℕ} {z : Run} → ShownBy entries lines w₁ slots (branchAt ends (entry + 1) b) start len top w₂ z
           → ShownBy entries lines w slots entry start len top w₂ z
-      choose-yes t {first} e y =
+      choose-done y =
           record {
             frame = y .frame ∙ x .frame;
             place = y .place;
             meets = λ X q st.
                 let f = at-choose entries X entry q st op in
-                y .meets (f .1) (f .4) (subst (λ (k : ℕ). Stands entries (f .1) k (f .4)) (sym (first-after e (f .0) (f .3) (f .6))) (f .7))
-                ∙ ap valueOnly (sym (same-run entries lines w w₁ bound (x .frame) start len below (f .1)))
-                ∙ (rw t at (decided X q f));
+                y .meets (cond b (f .1) (f .2)) (cond b (f .4) q) (branch-stands entries ended (entry + 1) (f .0) (f .1) (f .2) (f .3) (f .4) q (f .6) (f .7) (f .8) b)
+                ∙ ap valueOnly (sym (same-run entries lines w w₁ bound (x .frame) start len below (cond b (f .1) (f .2))))
+                ∙ (taken (f .1) (f .2) b ∙ decided X q f);
           }
-
-      pub choose-no : b ≡ false → {first second : ℕ} → first ≡ getD ends (entry + 1) 0 → second ≡ getD ends first 0 → {w₂ : List ℕ} {z : Run} → ShownBy entries lines w₁ slots second start len top w₂ z
-          → ShownBy entries lines w slots entry start len top w₂ z
-      choose-no t {first} {second} e d y =
-          record {
-            frame = y .frame ∙ x .frame;
-            place = y .place;
-            meets = λ X q st.
-                let f = at-choose entries X entry q st op in
-                let s = subst (λ (k : ℕ). Stands entries (f .1) k (f .4)) (sym (first-after e (f .0) (f .3) (f .6))) (f .7) in
-                y .meets (f .2) q (second-stands entries ended first d (f .1) (f .2) (f .4) q s (f .8))
-                ∙ ap valueOnly (sym (same-run entries lines w w₁ bound (x .frame) start len below (f .2)))
-                ∙ (rw t at (decided X q f));
-          }
+        where
+          taken : (Y Z : Transformation) (b : Bool)
+              → valueOnly (show (lookupOf lines) (cond b Y Z) (slotsAt (madeBy entries) w slots) (valueAt (madeBy entries) w start len))
+              ≡ valueOnly (branchRun b (show (lookupOf lines) Y) (show (lookupOf lines) Z) (slotsAt (madeBy entries) w slots) (valueAt (madeBy entries) w start len))
+          taken Y Z true = refl
+          taken Y Z false = refl
 
 -- ## 0C
 
@@ -279,7 +282,8 @@ module _ {entries : List Entry} {lines : List Line} {w : List ℕ} {slots : Slot
             let f = at-bind entries X entry q st op in
             x .meets (f .0) q (f .2)
             ∙ (ap₂ (λ (S : Slots) (v : Value). valueOnly (show (lookupOf lines) (f .0) S v))
-            (ap (slotsAt (madeBy entries) w) i ∙ more-at bound left byte start len (madeBy entries) w ∙ ap (λ (k : ℕ). bound-as k (slotsAt (madeBy entries) w slots) (valueAt (madeBy entries) w start len)) e)
+            (ap (slotsAt (madeBy entries) w) i ∙ more-at bound left byte start len (madeBy entries) w
+            ∙ ap (λ (k : ℕ). bound-as k (slotsAt (madeBy entries) w slots) (valueAt (madeBy entries) w start len)) e)
             (value-none (madeBy entries) w top)
             ∙ sym (ap (λ (A : Transformation). valueOnly (show (lookupOf lines) A (slotsAt (madeBy entries) w slots) (valueAt (madeBy entries) w start len))) (f .1)));
       }

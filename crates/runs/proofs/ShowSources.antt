@@ -88,7 +88,8 @@ module _ (made : Made) (w : List ℕ) (start len : ℕ) (fits : start + len ≤ 
   words-top e h = let q = first-rest (top-words h) in rw q (top-one e _ _ (rw q at h))
 
   module _ (look : Lookup) where
-    pub says-element : isOneTop (valueAt made w start len) ≡ true → (r : Bool) → r ≡ elementOf look (nodeOf made (getD w start 0) .origin) → r ≡ isOneElement look (valueAt made w start len)
+    pub says-element : isOneTop (valueAt made w start len) ≡ true
+        → (r : Bool) → r ≡ elementOf look (nodeOf made (getD w start 0) .origin) → r ≡ isOneElement look (valueAt made w start len)
     unfolding isOneTop isOneElement
     says-element h r e = let q = first-rest (top-words h) in let t : noTop (valueAt made w (start + 1) (len - 1)) ≡ true = rw q at h in rw (q, t) e
 

@@ -35,7 +35,8 @@ module _ (entries : List Entry) (lines : List Line) (w : List ℕ) (slots : Slot
         frame = refl;
         meets = λ P q st.
             let f = at-equals entries P entry q st op in
-            rw (f .1) (equals-no-source (lookupOf lines) entry (show (lookupOf lines) (f .0)) _ _ (Source entry) (no-text-one (lookupOf lines) entry (valueAt (madeBy entries) w start len) h));
+            rw (f .1) (equals-no-source (lookupOf lines) entry (show (lookupOf lines) (f .0)) _ _ (Source entry)
+            (no-text-one (lookupOf lines) entry (valueAt (madeBy entries) w start len) h));
       }
 
   module _ (one : isOneText (lookupOf lines) (valueAt (madeBy entries) w start len) ≡ true) (below : start + len ≤ top) (room : top + 128 ≤ length w) where
@@ -53,7 +54,8 @@ module _ (entries : List Entry) (lines : List Line) (w : List ℕ) (slots : Slot
         }
 
     module _ {w₁ : List ℕ} {n : ℕ} (x : Got entries lines w slots (entry + 1) top 0 top w₁ n) where
-      on-nothing : (Y : Transformation) (q : ℕ) → Stands entries Y (entry + 1) q → Gave (show (lookupOf lines) Y (slotsAt (madeBy entries) w slots) []) (valueAt (madeBy entries) w₁ top n)
+      on-nothing : (Y : Transformation) (q : ℕ) → Stands entries Y (entry + 1) q
+          → Gave (show (lookupOf lines) Y (slotsAt (madeBy entries) w slots) []) (valueAt (madeBy entries) w₁ top n)
       on-nothing Y q st = rw (value-none (madeBy entries) w top) at (x .is Y q st)
 
       pub equals-other : isOneText (lookupOf lines) (valueAt (madeBy entries) w₁ top n) ≡ false → TestedBy entries lines w slots entry start len top w₁ (tested.Stop (Source entry))
@@ -79,7 +81,8 @@ module _ (entries : List Entry) (lines : List Line) (w : List ℕ) (slots : Slot
             frame = x .frame;
             meets = λ P q st.
                 let f = at-equals entries P entry q st op in
-                ap gives (e ∙ ap (λ (i : ℕ). agree (bytesOf (lookupOf lines) (nodeOf (madeBy entries) i .origin)) (bytesOf (lookupOf lines) (nodeOf (madeBy entries) (getD w₁ top 0) .origin)))
+                let other = bytesOf (lookupOf lines) (nodeOf (madeBy entries) (getD w₁ top 0) .origin) in
+                ap gives (e ∙ ap (λ (i : ℕ). agree (bytesOf (lookupOf lines) (nodeOf (madeBy entries) i .origin)) other)
                 (frame-word w w₁ top start (x .frame) (omega arith)))
                 ∙ rw (f .1) (equals-says (lookupOf lines) entry (show (lookupOf lines) (f .0)) _ _ _ is-text _ (on-nothing (f .0) q (f .2)) _
                 (words-text (madeBy entries) w₁ top n (omega arith) (lookupOf lines) entry h));

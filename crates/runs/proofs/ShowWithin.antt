@@ -71,7 +71,8 @@ module _ (entries : List Entry) (lines : List Line) (w : List ℕ) (slots : Slot
         meets = λ X q st. let f = at-within entries X entry q st op in rw (f .1, no-element-one (lookupOf lines) entry (valueAt (madeBy entries) w start len) h);
       }
 
-  module _ (one : isOneElement (lookupOf lines) (valueAt (madeBy entries) w start len) ≡ true) (bound : Bound slots top) (below : start + len ≤ top) (few : len ≤ 128) (room : top + 256 ≤ length w)
+  module _ (one : isOneElement (lookupOf lines) (valueAt (madeBy entries) w start len) ≡ true)
+      (bound : Bound slots top) (below : start + len ≤ top) (few : len ≤ 128) (room : top + 256 ≤ length w)
       {w₁ : List ℕ} (p : w₁ ≡ putAt w top (map loweredWord (part w (start + 1) (len - 1)))) where
     some : 0 < len
     some = element-words (madeBy entries) w start len (omega arith) (lookupOf lines) one
@@ -90,7 +91,8 @@ module _ (entries : List Entry) (lines : List Line) (w : List ℕ) (slots : Slot
         ≡ show (lookupOf lines) X (slotsAt (madeBy entries) w slots) (source .inner)
     run-inner X = ap₂ (show (lookupOf lines) X) (slots-frame (madeBy entries) w w₁ bound (left .frame)) (gives-inj _ _ (left .meets))
 
-    pub within-stop : {w₂ : List ℕ} {s : Stop} → Halted entries lines w₁ slots (entry + 1) top (len - 1) (top + 128) w₂ s → ShownBy entries lines w slots entry start len top w₂ (ran.Stop s)
+    pub within-stop : {w₂ : List ℕ} {s : Stop} → Halted entries lines w₁ slots (entry + 1) top (len - 1) (top + 128) w₂ s
+        → ShownBy entries lines w slots entry start len top w₂ (ran.Stop s)
     unfolding show
     within-stop {w₂} {s} x =
         record {
@@ -130,7 +132,8 @@ module _ (entries : List Entry) (lines : List Line) (w : List ℕ) (slots : Slot
                 (rw (lt-leb (suc (length (raised inside))) 128 (omega arith))));
           }
 
-      module _ (h : n + 1 ≤ 128) {w₃ : List ℕ} (set-first : w₃ ≡ set w₂ top (getD w₂ start 0)) {w₄ : List ℕ} (put : w₄ ≡ putAt w₃ (top + 1) (map raisedWord (part w₃ (top + 128) n))) where
+      module _ (h : n + 1 ≤ 128) {w₃ : List ℕ} (set-first : w₃ ≡ set w₂ top (getD w₂ start 0))
+          {w₄ : List ℕ} (put : w₄ ≡ putAt w₃ (top + 1) (map raisedWord (part w₃ (top + 128) n))) where
         long₃ : length w₃ ≡ length w
         long₃ = ap length set-first ∙ length-set w₂ top (getD w₂ start 0) ∙ kept
 
@@ -162,7 +165,8 @@ module _ (entries : List Entry) (lines : List Line) (w : List ℕ) (slots : Slot
             ∙ frame-word w w₂ top start frame₂ (omega arith)))
             (ap (λ (k : List ℕ). valueAt (madeBy entries) k (top + 1) n) put
             ∙ put-value (madeBy entries) w₃ (top + 1) (map raisedWord (part w₃ (top + 128) n)) n new-long (omega arith)
-            ∙ ap (λ (k : List ℕ). map (nodeOf (madeBy entries)) (map raisedWord (take n k))) (ap (drop (top + 128)) set-first ∙ drop-set-lt (top + 128) w₂ top (getD w₂ start 0) (omega arith)))
+            ∙ ap (λ (k : List ℕ). map (nodeOf (madeBy entries)) (map raisedWord (take n k)))
+            (ap (drop (top + 128)) set-first ∙ drop-set-lt (top + 128) w₂ top (getD w₂ start 0) (omega arith)))
 
         bounds : withinBounds (source .top ∷ raised inside) ≡ shallow (valueAt (madeBy entries) w₄ top (n + 1))
         unfolding withinBounds shallow valueAt
@@ -182,7 +186,8 @@ module _ (entries : List Entry) (lines : List Line) (w : List ℕ) (slots : Slot
                   rw (f .1) (within-large (lookupOf lines) entry (show (lookupOf lines) (f .0)) _ _ source is-source inside (ran-inner (f .0) q (f .2)) (bounds ∙ sym d));
             }
 
-        pub within-done : true ≡ shallow (valueAt (madeBy entries) w₄ top (n + 1)) → ShownBy entries lines w slots entry start len top w₄ (ran.Value (record { start = top; len = n + 1 }))
+        pub within-done : true ≡ shallow (valueAt (madeBy entries) w₄ top (n + 1))
+            → ShownBy entries lines w slots entry start len top w₄ (ran.Value (record { start = top; len = n + 1 }))
         unfolding show valueAt shallow
         within-done d =
             let ok = ap shallow (sym at-top) ∙ sym d in

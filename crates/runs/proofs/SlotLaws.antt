@@ -1,7 +1,7 @@
 -- The slots: none, one more, the innermost of a byte; and what stands in them where nothing below top has changed.
 use mathlib.Core.Path.{_≡_, refl, sym, _∙_, ap, ap₂}
 use mathlib.Core.Bool.{Bool, true, false, cond, _||_}
-use mathlib.Core.List.{List, [], _∷_}
+use mathlib.Core.List.{List, _∷_}
 use Prim.Native.Nat.{ℕ, zero, suc, pred, _+_, _-_, _≤_, _<_}
 use native.Mathlib.Numerals.{add-one, sub-one}
 use native.Mathlib.Decide.{decLt}
@@ -14,24 +14,11 @@ use Rattle.values.specs.Values.{Value, among}
 use Rattle.values.specs.Words.{Made, valueAt}
 use Rattle.values.specs.Theorems.WordLaws.{value-frame}
 use Rattle.runs.specs.declared.slots.Slots.{Slots as SlotWords}
-use Rattle.runs.specs.Reading.{Room, wholeRoom, insideBind}
+use Rattle.runs.specs.Reading.{Room, insideBind}
 use Rattle.runs.specs.Showing.{Slots, valueIn}
 use Rattle.runs.specs.Runs.{slotsTo, slotsAt, bytesTo, Bound, Inside}
-use Rattle.runs.specs.SlotWords.{noSlots, oneMore, innermost}
+use Rattle.runs.specs.SlotWords.{oneMore, innermost}
 use Rattle.runs.specs.Theorems.Combinators.{bound}
-
--- ## None
-
-pub none-bound : (top : ℕ) → Bound noSlots top
-none-bound top = record { four = (refl, refl, refl); few = omega arith; below = λ k h. absurd (omega arith); short = λ k h. absurd (omega arith) }
-
-pub none-inside : Inside noSlots wholeRoom
-unfolding bytesTo
-none-inside = record { slots-bound = refl; binds-left = omega arith }
-
-pub none-at : (made : Made) (w : List ℕ) → slotsAt made w noSlots ≡ []
-unfolding slotsAt slotsTo
-none-at made w = refl
 
 -- ## Below top
 
@@ -136,21 +123,24 @@ module _ (slots : SlotWords) (byte : ℕ) where
   found-in zero h = let z : _≡_ {A = ℕ} 0 1 = cc in absurd (omega arith)
   found-in (suc k) h = go (eqb byte (getD (slots .bytes) k 0)) (found-in k) h
     where
-      go : (t : Bool) → (among byte (bytesTo slots k) ≡ true → innermost (slots .bytes) (slots .count) byte k < k) → (t || among byte (bytesTo slots k)) ≡ true → cond t k (innermost (slots .bytes) (slots .count) byte k) < suc k
+      go : (t : Bool) → (among byte (bytesTo slots k) ≡ true → innermost (slots .bytes) (slots .count) byte k < k)
+          → (t || among byte (bytesTo slots k)) ≡ true → cond t k (innermost (slots .bytes) (slots .count) byte k) < suc k
       go true ih e = omega arith
       go false ih e = let l = ih e in omega arith
 
   found-value : (made : Made) (w : List ℕ) (k : ℕ) → among byte (bytesTo slots k) ≡ true
-      → valueIn byte (slotsTo made w slots k) ≡ valueAt made w (getD (slots .starts) (innermost (slots .bytes) (slots .count) byte k) 0) (getD (slots .lens) (innermost (slots .bytes) (slots .count) byte k) 0)
+      → let j = innermost (slots .bytes) (slots .count) byte k in
+      valueIn byte (slotsTo made w slots k) ≡ valueAt made w (getD (slots .starts) j 0) (getD (slots .lens) j 0)
   unfolding among bytesTo innermost valueIn slotsTo
   found-value made w zero h = let z : _≡_ {A = ℕ} 0 1 = cc in absurd (omega arith)
   found-value made w (suc k) h = go (eqb byte (getD (slots .bytes) k 0)) (found-value made w k) h
     where
       go : (t : Bool)
-          → (among byte (bytesTo slots k) ≡ true → valueIn byte (slotsTo made w slots k) ≡ valueAt made w (getD (slots .starts) (innermost (slots .bytes) (slots .count) byte k) 0) (getD (slots .lens) (innermost (slots .bytes) (slots .count) byte k) 0))
+          → let j = innermost (slots .bytes) (slots .count) byte k in
+          (among byte (bytesTo slots k) ≡ true → valueIn byte (slotsTo made w slots k) ≡ valueAt made w (getD (slots .starts) j 0) (getD (slots .lens) j 0))
           → (t || among byte (bytesTo slots k)) ≡ true
           → cond t (valueAt made w (getD (slots .starts) k 0) (getD (slots .lens) k 0)) (valueIn byte (slotsTo made w slots k))
-          ≡ valueAt made w (getD (slots .starts) (cond t k (innermost (slots .bytes) (slots .count) byte k)) 0) (getD (slots .lens) (cond t k (innermost (slots .bytes) (slots .count) byte k)) 0)
+          ≡ valueAt made w (getD (slots .starts) (cond t k j) 0) (getD (slots .lens) (cond t k j) 0)
       go true ih e = refl
       go false ih e = ih e
 

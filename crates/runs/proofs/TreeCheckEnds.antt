@@ -111,11 +111,13 @@ module _ {E : List Entry} (k : ℕ) (room : Room) where
       record { answer = rw e; long = refl; before = λ p h. refl; ended = record { forward = omega arith; each = λ p a b. absurd (omega arith) } }
 
   module _ {ends ends₁ : List ℕ} {entry : ℕ} {r : Checked} where
-    pub one-below : (n : ℕ) → n ≡ 1 → CheckedFrom E ends ends₁ entry (trees E k room entry) r → CheckedFrom E ends ends₁ entry (endBelow (trees E k room) (tests E k room) n entry) r
+    pub one-below : (n : ℕ) → n ≡ 1 → CheckedFrom E ends ends₁ entry (trees E k room entry) r
+        → CheckedFrom E ends ends₁ entry (endBelow (trees E k room) (tests E k room) n entry) r
     unfolding endBelow endOf
     one-below n e d = wanted-alike _ (rw e (bind-gives (trees E k room entry))) d
 
-    pub two-below : (n : ℕ) → n ≡ 2 → CheckedFrom E ends ends₁ entry (endOf (trees E k room) 2 entry) r → CheckedFrom E ends ends₁ entry (endBelow (trees E k room) (tests E k room) n entry) r
+    pub two-below : (n : ℕ) → n ≡ 2 → CheckedFrom E ends ends₁ entry (endOf (trees E k room) 2 entry) r
+        → CheckedFrom E ends ends₁ entry (endBelow (trees E k room) (tests E k room) n entry) r
     unfolding endBelow
     two-below n e d = wanted-alike _ (rw e) d
 
@@ -124,15 +126,18 @@ module _ {E : List Entry} (k : ℕ) (room : Room) where
     two-fault d e = fault-first (λ q. endOf (trees E k room) 1 q) d e
 
     pub two-then : {q : ℕ} {ends₂ : List ℕ} {s : Checked}
-        → CheckedFrom E ends ends₁ entry (trees E k room entry) r → r ≡ Next q → CheckedFrom E ends₁ ends₂ q (trees E k room q) s → CheckedFrom E ends ends₂ entry (endOf (trees E k room) 2 entry) s
+        → CheckedFrom E ends ends₁ entry (trees E k room entry) r → r ≡ Next q
+        → CheckedFrom E ends₁ ends₂ q (trees E k room q) s → CheckedFrom E ends ends₂ entry (endOf (trees E k room) 2 entry) s
     unfolding endOf
     two-then {q} d e x = one-then (λ q. endOf (trees E k room) 1 q) d e (wanted-alike _ (bind-gives (trees E k room q)) x)
 
-    pub choice-fault : {p : ℕ} → CheckedFrom E ends ends₁ entry (tests E k room entry) r → r ≡ Fault p → CheckedFrom E ends ends₁ entry (endBelow (trees E k room) (tests E k room) 3 entry) (Fault p)
+    pub choice-fault : {p : ℕ} → CheckedFrom E ends ends₁ entry (tests E k room entry) r → r ≡ Fault p
+        → CheckedFrom E ends ends₁ entry (endBelow (trees E k room) (tests E k room) 3 entry) (Fault p)
     unfolding endBelow
     choice-fault d e = fault-first (λ q. endOf (trees E k room) 2 q) d e
 
     pub choice-then : {q : ℕ} {ends₂ : List ℕ} {s : Checked}
-        → CheckedFrom E ends ends₁ entry (tests E k room entry) r → r ≡ Next q → CheckedFrom E ends₁ ends₂ q (endOf (trees E k room) 2 q) s → CheckedFrom E ends ends₂ entry (endBelow (trees E k room) (tests E k room) 3 entry) s
+        → CheckedFrom E ends ends₁ entry (tests E k room entry) r → r ≡ Next q → CheckedFrom E ends₁ ends₂ q (endOf (trees E k room) 2 q) s
+        → CheckedFrom E ends ends₂ entry (endBelow (trees E k room) (tests E k room) 3 entry) s
     unfolding endBelow
     choice-then d e x = one-then (λ q. endOf (trees E k room) 2 q) d e x

@@ -12,7 +12,8 @@ use Rattle.lines.specs.Hex.{pairAt}
 use Rattle.lines.specs.Entries.{Entry, entryAt, classOf, rowOf, slotOf, operandAt}
 use Rattle.runs.specs.Results.{Result, gives, stops, _>>=_, _>>_, ensure}
 use Rattle.runs.specs.Reading.{Makes, leaf, one, two, choice, testLeaf, testOne, unknown, makes, Room, below, noEntry}
-use Rattle.runs.specs.Checking.{mayStand, inside, entriesOf}
+use Rattle.runs.specs.Runs.{entriesOf}
+use Rattle.runs.specs.Checking.{mayStand, inside}
 use Rattle.runs.specs.Theorems.Table.{subEntries, reads-subEntries}
 use Rattle.runs.specs.Ends.{stands, endBelow, endAt}
 use Rattle.runs.proofs.TreeCheckRooms.{below-steps, may-alike, inside-alike}

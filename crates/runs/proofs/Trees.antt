@@ -1,6 +1,6 @@
 -- What stands at an entry, told by its operation: the tree's form and what stands below; and what is ready below an entry that is ready.
 use mathlib.Core.Path.{_≡_, refl, ap}
-use mathlib.Core.Bool.{true}
+use mathlib.Core.Bool.{Bool, true, false, cond}
 use mathlib.Core.List.{List}
 use Prim.Native.Nat.{ℕ, suc, _+_, _-_, _≤_, _<_, max}
 use native.Mathlib.Numerals.{add-one}
@@ -12,10 +12,12 @@ use lib.ListN.{length, getD, List·getD-eq-default}
 use Rattle.lines.specs.Entries.{Entry, slotOf, textOf}
 use Rattle.values.specs.Values.{among}
 use Rattle.runs.specs.declared.slots.Slots.{Slots as SlotWords}
-use Rattle.runs.specs.Programs.{equals, Transformation, source, nothing, text, tag, slot, contents, within, andThen, beside, each, choose, bind, Test, compares, tagged, isElement}
+use Rattle.runs.specs.Programs.{equals, Transformation, source, nothing, text, tag, slot, contents, within}
+use Rattle.runs.specs.Programs.{andThen, beside, each, choose, bind, Test, compares, tagged, isElement}
 use Rattle.runs.specs.Reading.{Makes, leaf, one, two, choice, testLeaf, testOne, unknown, operations, makes, Room, insideEach, insideBind, noEntry}
 use Rattle.runs.specs.Trees.{height, testHeight, Sound, SoundTest, Stands, StandsTest}
-use Rattle.runs.specs.Runs.{bytesTo, Bound, Inside, Ready, ReadyTest}
+use Rattle.runs.specs.Ends.{branchAt}
+use Rattle.runs.specs.Runs.{bytesTo, Bound, Ended, Inside, Ready, ReadyTest}
 use Rattle.runs.specs.SlotWords.{oneMore}
 use Rattle.runs.proofs.SlotLaws.{more-inside}
 
@@ -97,11 +99,13 @@ module _ (entries : List Entry) (X : Transformation) (p q : ℕ) (s : Stands ent
   unfolding operations
   at-within h = formed-by 0x07 h
 
-  pub at-then : (getD entries p noEntry) .operation ≡ 0x08 → (Y : Transformation) × (Z : Transformation) × (m : ℕ) × (X ≡ andThen p Y Z) × Stands entries Y (p + 1) m × Stands entries Z m q
+  pub at-then : (getD entries p noEntry) .operation ≡ 0x08
+      → (Y : Transformation) × (Z : Transformation) × (m : ℕ) × (X ≡ andThen p Y Z) × Stands entries Y (p + 1) m × Stands entries Z m q
   unfolding operations
   at-then h = formed-by 0x08 h
 
-  pub at-beside : (getD entries p noEntry) .operation ≡ 0x09 → (Y : Transformation) × (Z : Transformation) × (m : ℕ) × (X ≡ beside p Y Z) × Stands entries Y (p + 1) m × Stands entries Z m q
+  pub at-beside : (getD entries p noEntry) .operation ≡ 0x09
+      → (Y : Transformation) × (Z : Transformation) × (m : ℕ) × (X ≡ beside p Y Z) × Stands entries Y (p + 1) m × Stands entries Z m q
   unfolding operations
   at-beside h = formed-by 0x09 h
 
@@ -109,7 +113,9 @@ module _ (entries : List Entry) (X : Transformation) (p q : ℕ) (s : Stands ent
   unfolding operations
   at-each h = formed-by 0x0A h
 
-  pub at-choose : (getD entries p noEntry) .operation ≡ 0x0B → (P : Test) × (Y : Transformation) × (Z : Transformation) × (l : ℕ) × (m : ℕ) × (X ≡ choose p P Y Z) × StandsTest entries P (p + 1) l × Stands entries Y l m × Stands entries Z m q
+  pub at-choose : (getD entries p noEntry) .operation ≡ 0x0B
+      → (P : Test) × (Y : Transformation) × (Z : Transformation) × (l : ℕ) × (m : ℕ) × (X ≡ choose p P Y Z)
+      × StandsTest entries P (p + 1) l × Stands entries Y l m × Stands entries Z m q
   unfolding operations
   at-choose h = formed-by 0x0B h
 
@@ -229,20 +235,23 @@ module _ {entries : List Entry} {ends : List ℕ} {slots : SlotWords} {entry lev
       lower (f .0) (entry + 1) (r .behind) (r .room) (r .inside) (f .2) (rw (f .1) at (r .placed .high)) (rw (f .1) at (r .placed .sound))
 
   -- 08 and 09: the second stands where the first ends
-  pair : (Y Z : Transformation) (m : ℕ) → Stands entries Y (entry + 1) m → Stands entries Z m (r .behind) → suc (max (height Y) (height Z)) ≤ levels → Sound Y (r .room) × Sound Z (r .room)
+  pair : (Y Z : Transformation) (m : ℕ) → Stands entries Y (entry + 1) m → Stands entries Z m (r .behind)
+      → suc (max (height Y) (height Z)) ≤ levels → Sound Y (r .room) × Sound Z (r .room)
       → Ready entries ends slots (entry + 1) (levels - 1) × Ready entries ends slots (getD ends (entry + 1) 0) (levels - 1)
   pair Y Z m s t h d = (
     lower Y (entry + 1) m (r .room) (r .inside) s (omega arith) (d .0),
     rw (r .ended .tree Y (entry + 1) m s) (lower Z m (r .behind) (r .room) (r .inside) t (omega arith) (d .1)),
   )
 
-  pub ready-then : (getD entries entry noEntry) .operation ≡ 0x08 → Ready entries ends slots (entry + 1) (levels - 1) × Ready entries ends slots (getD ends (entry + 1) 0) (levels - 1)
+  pub ready-then : (getD entries entry noEntry) .operation ≡ 0x08
+      → Ready entries ends slots (entry + 1) (levels - 1) × Ready entries ends slots (getD ends (entry + 1) 0) (levels - 1)
   unfolding height Sound
   ready-then o =
       let f = at-then entries (r .tree) entry (r .behind) stands o in
       pair (f .0) (f .1) (f .2) (f .4) (f .5) (rw (f .3) at (r .placed .high)) (rw (f .3) at (r .placed .sound))
 
-  pub ready-beside : (getD entries entry noEntry) .operation ≡ 0x09 → Ready entries ends slots (entry + 1) (levels - 1) × Ready entries ends slots (getD ends (entry + 1) 0) (levels - 1)
+  pub ready-beside : (getD entries entry noEntry) .operation ≡ 0x09
+      → Ready entries ends slots (entry + 1) (levels - 1) × Ready entries ends slots (getD ends (entry + 1) 0) (levels - 1)
   unfolding height Sound
   ready-beside o =
       let f = at-beside entries (r .tree) entry (r .behind) stands o in
@@ -253,7 +262,8 @@ module _ {entries : List Entry} {ends : List ℕ} {slots : SlotWords} {entry lev
   ready-each o =
       let f = at-each entries (r .tree) entry (r .behind) stands o in
       let d : (leb 1 (r .room .eaches) ≡ true) × Sound (f .0) (insideEach (r .room)) = rw (f .1) at (r .placed .sound) in
-      lower (f .0) (entry + 1) (r .behind) (insideEach (r .room)) (record { slots-bound = r .inside .slots-bound; binds-left = r .inside .binds-left }) (f .2) (rw (f .1) at (r .placed .high)) (d .1)
+      lower (f .0) (entry + 1) (r .behind) (insideEach (r .room))
+      (record { slots-bound = r .inside .slots-bound; binds-left = r .inside .binds-left }) (f .2) (rw (f .1) at (r .placed .high)) (d .1)
 
   pub ready-choose : (getD entries entry noEntry) .operation ≡ 0x0B
       → ReadyTest entries ends slots (entry + 1) (levels - 1)
@@ -266,10 +276,22 @@ module _ {entries : List Entry} {ends : List ℕ} {slots : SlotWords} {entry lev
       let d : SoundTest (f .0) (r .room) × Sound (f .1) (r .room) × Sound (f .2) (r .room) = rw (f .5) at (r .placed .sound) in
       let a = r .ended .test (f .0) (entry + 1) (f .3) (f .6) in
       let b = r .ended .tree (f .1) (f .3) (f .4) (f .7) in (
-        record { few = r .few; ended = r .ended; tree = f .0; behind = f .3; room = r .room; placed = record { stands = f .6; high = omega arith; sound = d .0 }; inside = r .inside },
+        record {
+          few = r .few;
+          ended = r .ended;
+          tree = f .0;
+          behind = f .3;
+          room = r .room;
+          placed = record { stands = f .6; high = omega arith; sound = d .0 };
+          inside = r .inside;
+        },
         rw a (lower (f .1) (f .3) (f .4) (r .room) (r .inside) (f .7) (omega arith) (d .1)),
         rw (a, b) (lower (f .2) (f .4) (r .behind) (r .room) (r .inside) (f .8) (omega arith) (d .2)),
       )
+
+  pub ready-branch : (getD entries entry noEntry) .operation ≡ 0x0B → (b : Bool) → Ready entries ends slots (branchAt ends (entry + 1) b) (levels - 1)
+  ready-branch o true = ready-choose o .1
+  ready-branch o false = ready-choose o .2
 
   -- an 05 stands inside a 0C of its slot
   pub slot-bound : (getD entries entry noEntry) .operation ≡ 0x05 → among (slotOf (getD entries entry noEntry)) (bytesTo slots (slots .count)) ≡ true
@@ -280,7 +302,8 @@ module _ {entries : List Entry} {ends : List ℕ} {slots : SlotWords} {entry lev
 
   -- a 0C: there is room for one slot more, and X is ready with it
   module _ (o : (getD entries entry noEntry) .operation ≡ 0x0C) where
-    bind-below : (Y : Transformation) × (Stands entries Y (entry + 1) (r .behind)) × (suc (height Y) ≤ levels) × (leb 1 (r .room .binds) ≡ true) × Sound Y (insideBind (slotOf (getD entries entry noEntry)) (r .room))
+    bind-below : (Y : Transformation) × (Stands entries Y (entry + 1) (r .behind)) × (suc (height Y) ≤ levels)
+        × (leb 1 (r .room .binds) ≡ true) × Sound Y (insideBind (slotOf (getD entries entry noEntry)) (r .room))
     unfolding height Sound
     bind-below =
         let f = at-bind entries (r .tree) entry (r .behind) stands o in
@@ -290,7 +313,8 @@ module _ {entries : List Entry} {ends : List ℕ} {slots : SlotWords} {entry lev
     pub slots-left : slots .count < 4
     slots-left = let h = leb-true 1 (r .room .binds) (bind-below .3) in let i = r .inside .binds-left in omega arith
 
-    pub ready-bind : {top : ℕ} → Bound slots top → (byte start len : ℕ) → byte ≡ slotOf (getD entries entry noEntry) → Ready entries ends (oneMore slots byte start len) (entry + 1) (levels - 1)
+    pub ready-bind : {top : ℕ} → Bound slots top → (byte start len : ℕ) → byte ≡ slotOf (getD entries entry noEntry)
+        → Ready entries ends (oneMore slots byte start len) (entry + 1) (levels - 1)
     ready-bind b byte start len e =
         record {
           few = r .few;
@@ -302,10 +326,26 @@ module _ {entries : List Entry} {ends : List ℕ} {slots : SlotWords} {entry lev
           inside = more-inside b slots-left byte start len (r .inside) (bind-below .3);
         }
 
-pub ready-equals : {entries : List Entry} {ends : List ℕ} {slots : SlotWords} {entry levels : ℕ} → ReadyTest entries ends slots entry levels → (getD entries entry noEntry) .operation ≡ 0x11
+pub ready-equals : {entries : List Entry} {ends : List ℕ} {slots : SlotWords} {entry levels : ℕ}
+    → ReadyTest entries ends slots entry levels → (getD entries entry noEntry) .operation ≡ 0x11
     → Ready entries ends slots (entry + 1) (levels - 1)
 unfolding height Sound
 ready-equals {entries} {ends} {slots} {entry} {levels} r o =
     let f = at-equals entries (r .tree) entry (r .behind) (r .placed .stands) o in
     let h : suc (height (f .0)) ≤ levels = rw (f .1) at (r .placed .high) in
-    record { few = r .few; ended = r .ended; tree = f .0; behind = r .behind; room = r .room; placed = record { stands = f .2; high = omega arith; sound = rw (f .1) at (r .placed .sound) }; inside = r .inside }
+    record {
+      few = r .few;
+      ended = r .ended;
+      tree = f .0;
+      behind = r .behind;
+      room = r .room;
+      placed = record { stands = f .2; high = omega arith; sound = rw (f .1) at (r .placed .sound) };
+      inside = r .inside;
+    }
+
+-- the branch that a test leads to, where the test ends or behind the first branch
+pub branch-stands : (entries : List Entry) {ends : List ℕ} → Ended entries ends → (p : ℕ) (P : Test) (Y Z : Transformation) (l m q : ℕ)
+    → StandsTest entries P p l → Stands entries Y l m → Stands entries Z m q
+    → (b : Bool) → Stands entries (cond b Y Z) (branchAt ends p b) (cond b m q)
+branch-stands entries ended p P Y Z l m q t y z true = rw (ended .test P p l t) y
+branch-stands entries ended p P Y Z l m q t y z false = rw (ended .test P p l t, ended .tree Y l m y) z

@@ -2,12 +2,12 @@
 use Prim.Native.Nat.{ℕ, zero, suc, _+_, _≤_, _<_}
 use mathlib.Core.Path.{_≡_}
 use mathlib.Core.Bool.{Bool, true, cond}
-use mathlib.Core.List.{List, [], _∷_, map}
+use mathlib.Core.List.{List, [], _∷_}
 use lib.Dec.{leb, eqb}
 use lib.ListN.{length, getD, take}
 use Rattle.lines.specs.declared.verdict.Verdict.{Verdict}
 use Rattle.lines.specs.declared.verdict.Verdict.the-variants as verdict
-use Rattle.lines.specs.Entries.{Entry, entryAt}
+use Rattle.lines.specs.Entries.{Entry}
 use Rattle.values.specs.Values.{among}
 use Rattle.runs.specs.declared.tree.Room.{Room as RoomLeft}
 use Rattle.runs.specs.declared.tree.Checked.{Checked}
@@ -17,10 +17,6 @@ use Rattle.runs.specs.Programs.{Transformation, Test}
 use Rattle.runs.specs.Reading.{Room, insideEach, insideBind, readProgram, faultOf}
 use Rattle.runs.specs.Trees.{Stands, StandsTest}
 use Rattle.runs.specs.Runs.{Ended}
-
--- the entries whose lines begin at these places
-abbrev pub entriesOf : List ℕ → List ℕ → List Entry
-entriesOf prog starts = map (entryAt prog) starts
 
 -- "Program 96 lines", each with its place in `ends`
 pub record Sized (starts ends : List ℕ) : Type 0 where

@@ -36,3 +36,7 @@ module _ (entries : List Entry) where
     inner ← below (getD entries p noEntry) p room
     ensure (stands asked (classOf ((getD entries p noEntry) .operation))) p
     endBelow (endAt levels inner false) (endAt levels inner true) (rowOf ((getD entries p noEntry) .operation) .1) (suc p)
+
+-- where the branch of a 0B stands, by what its test at p says
+abbrev pub branchAt : List ℕ → ℕ → Bool → ℕ
+branchAt ends p b = cond b (getD ends p 0) (getD ends (getD ends p 0) 0)

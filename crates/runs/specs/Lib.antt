@@ -9,6 +9,7 @@ pub mod Grounds
 pub mod Paper
 pub mod Theorems
 pub mod Runs
+pub mod Ats
 pub mod Lookups
 pub mod SlotWords
 pub mod Leaves

@@ -10,7 +10,8 @@ use Rattle.lines.specs.declared.verdict.Verdict.the-variants.{Fine, Fault}
 use Rattle.lines.specs.Entries.{Entry, slotOf, textOf}
 use Rattle.values.specs.Values.{among}
 use Rattle.runs.specs.Results.{Result, gives, stops, _>>=_, _>>_, ensure}
-use Rattle.runs.specs.Programs.{equals, Transformation, source, nothing, text, tag, slot, contents, within, andThen, beside, each, choose, bind, Test, compares, tagged, isElement}
+use Rattle.runs.specs.Programs.{equals, Transformation, source, nothing, text, tag, slot, contents, within}
+use Rattle.runs.specs.Programs.{andThen, beside, each, choose, bind, Test, compares, tagged, isElement}
 
 -- ## What an entry makes of what its sub-entries make
 

@@ -1,16 +1,15 @@
 -- What the code of a run stands on, what it asks and what it promises: files read by their lines, values and standings in the work slice.
 use Prim.Native.Nat.{ℕ, zero, suc, _+_, _*_, _≤_}
 use mathlib.Core.Path.{_≡_}
-use mathlib.Core.Bool.{Bool, cond}
+use mathlib.Core.Bool.{Bool}
 use mathlib.Core.List.{List, [], _∷_, map}
 use lib.Dec.{eqb}
 use lib.ListN.{length, getD, take}
-use Rattle.lines.specs.Entries.{Entry, textOf}
+use Rattle.lines.specs.Entries.{Entry, entryAt, textOf}
 use Rattle.lines.specs.Writing.{putAt}
-use Rattle.lines.specs.Nodes.{isElement}
+use Rattle.lines.specs.Nodes.{nodeAt, isElement}
 use Rattle.lines.specs.Nodes.{Node as Line}
 use Rattle.values.specs.Values.{Value, Lookup}
-use Rattle.values.specs.Standings.{Standing, fitted}
 use Rattle.values.specs.Words.{part, Made, valueAt, standingsAt, AllNamed, mergedWords}
 use Rattle.runs.specs.declared.stop.Stop.{Stop}
 use Rattle.runs.specs.declared.stop.Run.{Run}
@@ -21,12 +20,18 @@ use Rattle.runs.specs.declared.slots.Slots.{Slots as SlotWords}
 use Rattle.runs.specs.Results.{Result, gives, stops}
 use Rattle.runs.specs.Programs.{Transformation, Test}
 use Rattle.runs.specs.Reading.{Room, noEntry}
-use Rattle.runs.specs.Showing.{Binding, Slots, Shown, Answer, show, test}
-use Rattle.runs.specs.PuttingBack.{SlotStandings, Back, putBack, putBackTest}
+use Rattle.runs.specs.Showing.{Slots, Shown, Answer, show, test}
+use Rattle.runs.specs.PuttingBack.{SlotStandings, putBack, putBackTest}
 use Rattle.runs.specs.Grounds.{noLine}
 use Rattle.runs.specs.Trees.{Stands, StandsTest, Placed, PlacedTest}
 
--- ## The two files
+-- ## The two files, by where their lines begin
+
+abbrev pub entriesOf : List ℕ → List ℕ → List Entry
+entriesOf prog starts = map (entryAt prog) starts
+
+abbrev pub linesOf : List ℕ → List ℕ → List Line
+linesOf file starts = map (nodeAt file) starts
 
 -- what entry e makes: 04 an element, 03 and 04 their bytes
 unfoldable pub madeBy : List Entry → Made
@@ -89,11 +94,12 @@ pub record ReadyTest (entries : List Entry) (ends : List ℕ) (slots : SlotWords
   pub placed : PlacedTest entries tree entry behind levels room
   pub inside : Inside slots room
 
--- the source lies below top, so do the slots, and each level has its room
+-- the source lies below top, so do the slots; each level has its room, and every place fits 16 bits
 pub record Space (w : List ℕ) (slots : SlotWords) (start len top levels : ℕ) : Type 0 where
   pub below : start + len ≤ top
   pub short : len ≤ 128
   pub enough : top + 128 * levels ≤ length w
+  pub low : top + 128 * levels ≤ 0x10000
   pub bound : Bound slots top
 
 -- an answer of the code, with the work slice as it is then
@@ -152,16 +158,13 @@ NamedTo texts marks slots (suc k) = AllNamed texts (part marks (128 * k) (getD (
 abbrev pub mergedAt : List ℕ → SlotWords → ℕ → List ℕ → ℕ → List ℕ
 mergedAt marks slots k w view = putAt marks (128 * k) (mergedWords (part marks (128 * k) (getD (slots .lens) k 0)) (part w view (getD (slots .lens) k 0)))
 
--- where the branch of a 0B stands, by what its test at p says
-abbrev pub branchAt : List ℕ → ℕ → Bool → ℕ
-branchAt ends p b = cond b (getD ends p 0) (getD ends (getD ends p 0) 0)
-
--- source and view lie below top, and each level has its room; the slots have theirs
+-- source and view lie below top, so do the slots; each level has its room, and every place fits 16 bits; the slots' standings have theirs
 pub record PutSpace (w marks : List ℕ) (slots : SlotWords) (start len view vlen top levels : ℕ) : Type 0 where
   pub below : start + len ≤ top
   pub short : len ≤ 128
   pub view-below : view + vlen ≤ top
   pub enough : top + 256 * levels ≤ length w
+  pub low : top + 256 * levels ≤ 0x10000
   pub marks-long : length marks ≡ 512
   pub bound : Bound slots top
 
@@ -176,7 +179,8 @@ module _ (entries : List Entry) (lines : List Line) where
     pub frame : take top w′ ≡ take top w
     pub meets : (texts : ℕ → List ℕ) → AllNamed texts (part w view vlen) → NamedTo texts marks slots (slots .count)
         → (X : Transformation) (q : ℕ) → Stands entries X entry q
-        → let b = putBack (lookupOf lines) X (slotsAt (madeBy entries) w slots) (valueAt (madeBy entries) w start len) (standingsAt texts w view vlen) (marksAt texts marks slots) in
+        → let v = valueAt (madeBy entries) w start len in
+        let b = putBack (lookupOf lines) X (slotsAt (madeBy entries) w slots) v (standingsAt texts w view vlen) (marksAt texts marks slots) in
         (standingsAt texts w′ top len ≡ b .inSource)
         × (marksAt texts marks′ slots ≡ b .inSlots)
         × AllNamed texts (part w′ top len)
@@ -192,7 +196,8 @@ module _ (entries : List Entry) (lines : List Line) where
     pub frame : take top w′ ≡ take top w
     pub meets : (texts : ℕ → List ℕ) → AllNamed texts (part w top len) → NamedTo texts marks slots (slots .count)
         → (P : Test) (q : ℕ) → StandsTest entries P entry q
-        → let b = putBackTest (lookupOf lines) P (slotsAt (madeBy entries) w slots) (valueAt (madeBy entries) w start len) (standingsAt texts w top len) (marksAt texts marks slots) in
+        → let v = valueAt (madeBy entries) w start len in
+        let b = putBackTest (lookupOf lines) P (slotsAt (madeBy entries) w slots) v (standingsAt texts w top len) (marksAt texts marks slots) in
         (standingsAt texts w′ top len ≡ b .inSource)
         × (marksAt texts marks′ slots ≡ b .inSlots)
         × AllNamed texts (part w′ top len)

@@ -9,7 +9,8 @@ use Rattle.values.specs.Values.{Node, Value, Lookup, elementOf, bytesOf, number
 use Rattle.runs.specs.declared.stop.Stop.{Stop}
 use Rattle.runs.specs.declared.stop.Stop.the-variants.{Source, Size}
 use Rattle.runs.specs.Results.{Result, gives, stops, _>>=_, _>>_, ensure}
-use Rattle.runs.specs.Programs.{Comparison, equals, Transformation, source, nothing, text, tag, slot, contents, within, andThen, beside, each, choose, bind, Test, compares, tagged, isElement}
+use Rattle.runs.specs.Programs.{Comparison, equals, Transformation, source, nothing, text, tag, slot, contents}
+use Rattle.runs.specs.Programs.{within, andThen, beside, each, choose, bind, Test, compares, tagged, isElement}
 
 -- ## The slots, innermost first
 

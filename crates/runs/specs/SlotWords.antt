@@ -22,3 +22,7 @@ oneMore slots byte start len =
 unfoldable pub innermost : List ℕ → ℕ → ℕ → ℕ → ℕ
 innermost bytes none byte zero = none
 innermost bytes none byte (suc k) = cond (eqb byte (getD bytes k 0)) k (innermost bytes none byte k)
+
+-- the place of the innermost of all; their number where there is none
+abbrev pub boundTo : SlotWords → ℕ → ℕ
+boundTo slots byte = innermost (slots .bytes) (slots .count) byte (slots .count)

@@ -7,7 +7,8 @@ use lib.Dec.{leb}
 use lib.ListN.{getD}
 use Rattle.lines.specs.Entries.{Entry, slotOf, textOf}
 use Rattle.values.specs.Values.{among}
-use Rattle.runs.specs.Programs.{equals, Transformation, source, nothing, text, tag, slot, contents, within, andThen, beside, each, choose, bind, Test, compares, tagged, isElement}
+use Rattle.runs.specs.Programs.{equals, Transformation, source, nothing, text, tag, slot, contents, within}
+use Rattle.runs.specs.Programs.{andThen, beside, each, choose, bind, Test, compares, tagged, isElement}
 use Rattle.runs.specs.Reading.{Room, insideEach, insideBind, noEntry}
 
 -- ## Of trees

@@ -10,15 +10,13 @@ use lines::texts::same_text;
 use lines::texts::texts_agree;
 use values::nodes::LEVEL;
 ghost use mathlib.Core.Path.{_≡_};
-ghost use mathlib.Core.List.{List, map};
+ghost use mathlib.Core.List.{List};
 ghost use Prim.Native.Nat.{ℕ};
 ghost use Rattle.lines.specs.Texts.{textAt, sameText};
 ghost use Rattle.lines.specs.Texts.{agree as agreeing};
-ghost use Rattle.lines.specs.Nodes.{nodeAt};
-ghost use Rattle.lines.specs.Entries.{entryAt};
 ghost use Rattle.values.specs.Values.{elementOf, bytesOf};
 ghost use Rattle.values.specs.Words.{nodeOf};
-ghost use Rattle.runs.specs.Runs.{madeBy, lookupOf};
+ghost use Rattle.runs.specs.Runs.{entriesOf, linesOf, madeBy, lookupOf};
 ghost use Rattle.runs.specs.Lookups.{textIn};
 
 // The low half of a word: from this on an entry of the program.
@@ -38,7 +36,8 @@ pub fn is_element_word(
     nodes: &[u16],
     word: u32,
 ) -> bool
-    ensures { λ r. ⌜ r ≡ elementOf (lookupOf (map (nodeAt (now (master .entry))) (now (nodes .entry)))) (nodeOf (madeBy (map (entryAt (now (prog .entry))) (now (entries .entry)))) word .origin) ⌝ }
+    ensures { λ r. ⌜ (let made = madeBy (entriesOf (now (prog .entry)) (now (entries .entry))) in
+        r ≡ elementOf (lookupOf (linesOf (now (master .entry)) (now (nodes .entry)))) (nodeOf made word .origin)) ⌝ }
 {
     let origin = word % LEVEL;
     if origin < PROGRAM {
@@ -56,7 +55,8 @@ pub fn is_element_word(
 }
 
 pub fn text_of_word(prog: &[u8], entries: &[u16], nodes: &[u16], word: u32) -> Text
-    ensures { λ r. ⌜ ((master : List ℕ) → textIn (now (prog .entry)) master r ≡ bytesOf (lookupOf (map (nodeAt master) (now (nodes .entry)))) (nodeOf (madeBy (map (entryAt (now (prog .entry))) (now (entries .entry)))) word .origin)) ⌝ }
+    ensures { λ r. ⌜ (let made = madeBy (entriesOf (now (prog .entry)) (now (entries .entry))) in
+        (master : List ℕ) → textIn (now (prog .entry)) master r ≡ bytesOf (lookupOf (linesOf master (now (nodes .entry)))) (nodeOf made word .origin)) ⌝ }
 {
     let origin = word % LEVEL;
     if origin < PROGRAM {

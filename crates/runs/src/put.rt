@@ -1,15 +1,19 @@
-// Putting back: the view's standings, an extent below top, become those of the source, at top; those of the slots stand in `marks`, 128 words a slot.
-// Each level has room for 256 words.
-use crate::show::after;
+// Putting back: the view's standings, an extent below top, become those of the source, at top; those of the slots stand in `marks`.
+use crate::at::At;
+use crate::at::below;
+use crate::at::below_bound;
+use crate::at::below_on;
+use crate::at::seeing;
 use crate::show::show;
 use crate::show::test;
-use crate::slots::Slots;
-use crate::slots::bound;
 use crate::slots::find;
 use crate::stop::Run;
 use crate::stop::Tested;
+use crate::tree::after;
+use crate::tree::chosen;
 use lines::fields::operation_at;
 use lines::fields::slot_at;
+use values::extents::VALUE_ROOM;
 use values::extents::bring;
 use values::extents::copy;
 use values::extents::fill;
@@ -21,51 +25,48 @@ use values::standings::merge;
 use values::standings::merge_from;
 ghost use mathlib.Core.Path.{_≡_};
 ghost use mathlib.Core.Bool.{true};
-ghost use mathlib.Core.List.{map};
-ghost use Prim.Native.Nat.{_+_, _-_, _<_, _≤_};
+ghost use Prim.Native.Nat.{_+_, _-_, _≤_};
 ghost use lib.ListN.{length, getD, replicate};
 ghost use Rattle.lines.specs.Writing.{putAt};
-ghost use Rattle.lines.specs.Nodes.{nodeAt};
-ghost use Rattle.lines.specs.Entries.{entryAt};
 ghost use Rattle.values.specs.Values.{among};
 ghost use Rattle.values.specs.Words.{part};
-ghost use Rattle.runs.specs.Reading.{noEntry};
-ghost use Rattle.runs.specs.SlotWords.{innermost};
-ghost use Rattle.runs.specs.Runs.{bytesTo, Bound, Ready, ReadyTest, PutSpace, Seen, Asked, mergedAt, branchAt, PutBy, TestPutBy};
+ghost use Rattle.runs.specs.SlotWords.{boundTo};
+ghost use Rattle.runs.specs.Runs.{entriesOf, linesOf, bytesTo, Bound, mergedAt};
+ghost use Rattle.runs.specs.Ats.{operationAt, ReadyAt, ReadyTestAt, PutSpaceAt, TestSpaceAt, SeenAt, AskedAt, PutAt, TestPutAt};
+
+// A level has room for two values.
+pub const PUT_ROOM: usize = 2 * VALUE_ROOM;
+
+// The standings of the slots: room for a value each.
+pub const MARKS: usize = 4 * VALUE_ROOM;
 
 // 05: the view merged into its slot.
-fn put_slot(
-    work: &mut [u32],
-    marks: &mut [u32],
-    slots: Slots,
-    byte: u8,
-    len: usize,
-    view: usize,
-    top: usize,
-)
-    requires { ⌜ Bound slots top ⌝ }
-    requires { ⌜ among byte (bytesTo slots (slots .count)) ≡ true ⌝ }
-    requires { ⌜ view + getD (slots .lens) (innermost (slots .bytes) (slots .count) byte (slots .count)) 0 ≤ length (now work) ⌝ }
-    requires { ⌜ (top + len ≤ length (now work)) × (length (now marks) ≡ 512) ⌝ }
-    ensures { λ _. ⌜ now (work .exit) ≡ putAt (now (work .entry)) top (replicate len 0) ⌝ }
-    ensures { λ _. ⌜ now (marks .exit) ≡ mergedAt (now (marks .entry)) slots (innermost (slots .bytes) (slots .count) byte (slots .count)) (now (work .entry)) view ⌝ }
+fn put_slot(work: &mut [u32], marks: &mut [u32], at: At, byte: u8)
+    requires { ⌜ Bound (at .slots) (at .top) ⌝ }
+    requires { ⌜ among byte (bytesTo (at .slots) (at .slots .count)) ≡ true ⌝ }
+    requires { ⌜ at .view + getD (at .slots .lens) (boundTo (at .slots) byte) 0 ≤ length (now work) ⌝ }
+    requires { ⌜ (at .top + at .len ≤ length (now work)) × (length (now marks) ≡ 512) ⌝ }
+    ensures { λ _. ⌜ now (work .exit) ≡ putAt (now (work .entry)) (at .top) (replicate (at .len) 0) ⌝ }
+    ensures { λ _. ⌜ now (marks .exit) ≡ mergedAt (now (marks .entry)) (at .slots) (boundTo (at .slots) byte) (now (work .entry)) (at .view) ⌝ }
 {
+    let slots = at.slots;
     let k = find(slots, byte);
     let lens = slots.lens;
-    let n = lens[k];
-    merge_from(marks, 128 * k, work, view, n);
-    fill(work, top, len, UNTOUCHED);
+    let n = lens[k] as usize;
+    merge_from(marks, VALUE_ROOM * k, work, at.view, n);
+    fill(work, at.top, at.len, UNTOUCHED);
 }
 
 // 06: the view as contents of the source element, itself untouched.
-fn put_contents(work: &mut [u32], len: usize, view: usize, top: usize)
-    requires { ⌜ (1 ≤ len) × (view + (len - 1) ≤ top) × (top + len ≤ length (now work)) ⌝ }
-    ensures { λ _. ⌜ now (work .exit) ≡ putAt (putAt (now (work .entry)) top (replicate 1 0)) (top + 1) (part (now (work .entry)) view (len - 1)) ⌝ }
+fn put_contents(work: &mut [u32], at: At)
+    requires { ⌜ (1 ≤ at .len) × (at .view + (at .len - 1) ≤ at .top) × (at .top + at .len ≤ length (now work)) ⌝ }
+    ensures { λ _. ⌜ now (work .exit) ≡ putAt (putAt (now (work .entry)) (at .top) (replicate 1 0)) (at .top + 1) (part (now (work .entry)) (at .view) (at .len - 1)) ⌝ }
 {
-    fill(work, top, 1, UNTOUCHED);
-    copy(work, view, len - 1, top + 1);
+    fill(work, at.top, 1, UNTOUCHED);
+    copy(work, at.view, at.len - 1, at.top + 1);
 }
 
+// Puts the view back through the entry.
 pub fn put(
     prog: &[u8],
     entries: &[u16],
@@ -74,137 +75,27 @@ pub fn put(
     nodes: &[u16],
     work: &mut [u32],
     marks: &mut [u32],
-    slots: Slots,
-    entry: u8,
-    start: usize,
-    len: usize,
-    view: usize,
-    vlen: usize,
-    top: usize,
-    levels: u8,
+    at: At,
 )
-    requires { ⌜ Ready (map (entryAt (now prog)) (now entries)) (now ends) slots entry levels ⌝ }
-    requires { ⌜ PutSpace (now work) (now marks) slots start len view vlen top levels ⌝ }
-    requires { ⌜ Seen (map (entryAt (now prog)) (now entries)) (map (nodeAt (now master)) (now nodes)) (now work) slots entry start len vlen ⌝ }
-    ensures { λ r. ⌜ PutBy (map (entryAt (now (prog .entry))) (now (entries .entry))) (map (nodeAt (now (master .entry))) (now (nodes .entry))) (now (work .entry)) (now (marks .entry)) slots entry start len view vlen top (now (work .exit)) (now (marks .exit)) ⌝ }
+    requires { ⌜ ReadyAt (entriesOf (now prog) (now entries)) (now ends) at ⌝ }
+    requires { ⌜ PutSpaceAt (now work) (now marks) at ⌝ }
+    requires { ⌜ SeenAt (entriesOf (now prog) (now entries)) (linesOf (now master) (now nodes)) (now work) at ⌝ }
+    ensures { λ r. ⌜ (let E = entriesOf (now (prog .entry)) (now (entries .entry)) in let L = linesOf (now (master .entry)) (now (nodes .entry)) in
+        PutAt E L (now (work .entry)) (now (marks .entry)) at (now (work .exit)) (now (marks .exit))) ⌝ }
 {
-    let operation = operation_at(prog, entries[entry as usize]);
+    let operation = operation_at(prog, entries[at.entry as usize]);
     match operation {
         0x01..=0x0C => match operation {
-            0x01 => copy(work, view, len, top),
-            0x02..=0x04 => fill(work, top, len, UNTOUCHED),
-            0x05 => put_slot(
-                work,
-                marks,
-                slots,
-                slot_at(prog, entries[entry as usize]),
-                len,
-                view,
-                top,
-            ),
-            0x06 => put_contents(work, len, view, top),
-            0x07 => put_within(
-                prog,
-                entries,
-                ends,
-                master,
-                nodes,
-                work,
-                marks,
-                slots,
-                entry,
-                start,
-                len,
-                view,
-                vlen,
-                top,
-                levels,
-            ),
-            0x08 => put_and_then(
-                prog,
-                entries,
-                ends,
-                master,
-                nodes,
-                work,
-                marks,
-                slots,
-                entry,
-                start,
-                len,
-                view,
-                vlen,
-                top,
-                levels,
-            ),
-            0x09 => put_beside(
-                prog,
-                entries,
-                ends,
-                master,
-                nodes,
-                work,
-                marks,
-                slots,
-                entry,
-                start,
-                len,
-                view,
-                vlen,
-                top,
-                levels,
-            ),
-            0x0A => put_each(
-                prog,
-                entries,
-                ends,
-                master,
-                nodes,
-                work,
-                marks,
-                slots,
-                entry,
-                start,
-                len,
-                view,
-                vlen,
-                top,
-                levels,
-            ),
-            0x0B => put_choose(
-                prog,
-                entries,
-                ends,
-                master,
-                nodes,
-                work,
-                marks,
-                slots,
-                entry,
-                start,
-                len,
-                view,
-                vlen,
-                top,
-                levels,
-            ),
-            _ => put_bind(
-                prog,
-                entries,
-                ends,
-                master,
-                nodes,
-                work,
-                marks,
-                slots,
-                entry,
-                start,
-                len,
-                view,
-                vlen,
-                top,
-                levels,
-            ),
+            0x01 => copy(work, at.view, at.len, at.top),
+            0x02..=0x04 => fill(work, at.top, at.len, UNTOUCHED),
+            0x05 => put_slot(work, marks, at, slot_at(prog, entries[at.entry as usize])),
+            0x06 => put_contents(work, at),
+            0x07 => put_within(prog, entries, ends, master, nodes, work, marks, at),
+            0x08 => put_and_then(prog, entries, ends, master, nodes, work, marks, at),
+            0x09 => put_beside(prog, entries, ends, master, nodes, work, marks, at),
+            0x0A => put_each(prog, entries, ends, master, nodes, work, marks, at),
+            0x0B => put_choose(prog, entries, ends, master, nodes, work, marks, at),
+            _ => put_bind(prog, entries, ends, master, nodes, work, marks, at),
         },
         _ => {}
     }
@@ -219,41 +110,26 @@ fn put_within(
     nodes: &[u16],
     work: &mut [u32],
     marks: &mut [u32],
-    slots: Slots,
-    entry: u8,
-    start: usize,
-    len: usize,
-    view: usize,
-    vlen: usize,
-    top: usize,
-    levels: u8,
+    at: At,
 )
-    requires { ⌜ Ready (map (entryAt (now prog)) (now entries)) (now ends) slots entry levels ⌝ }
-    requires { ⌜ PutSpace (now work) (now marks) slots start len view vlen top levels ⌝ }
-    requires { ⌜ Seen (map (entryAt (now prog)) (now entries)) (map (nodeAt (now master)) (now nodes)) (now work) slots entry start len vlen ⌝ }
-    requires { ⌜ (getD (map (entryAt (now prog)) (now entries)) entry noEntry) .operation ≡ 0x07 ⌝ }
-    ensures { λ r. ⌜ PutBy (map (entryAt (now (prog .entry))) (now (entries .entry))) (map (nodeAt (now (master .entry))) (now (nodes .entry))) (now (work .entry)) (now (marks .entry)) slots entry start len view vlen top (now (work .exit)) (now (marks .exit)) ⌝ }
+    requires { ⌜ ReadyAt (entriesOf (now prog) (now entries)) (now ends) at ⌝ }
+    requires { ⌜ PutSpaceAt (now work) (now marks) at ⌝ }
+    requires { ⌜ SeenAt (entriesOf (now prog) (now entries)) (linesOf (now master) (now nodes)) (now work) at ⌝ }
+    requires { ⌜ operationAt (entriesOf (now prog) (now entries)) at ≡ 0x07 ⌝ }
+    ensures { λ r. ⌜ (let E = entriesOf (now (prog .entry)) (now (entries .entry)) in let L = linesOf (now (master .entry)) (now (nodes .entry)) in
+        PutAt E L (now (work .entry)) (now (marks .entry)) at (now (work .exit)) (now (marks .exit))) ⌝ }
 {
-    lower(work, start + 1, len - 1, top);
-    put(
-        prog,
-        entries,
-        ends,
-        master,
-        nodes,
-        work,
-        marks,
-        slots,
-        entry + 1,
-        top,
-        len - 1,
-        view + 1,
-        vlen - 1,
-        top + 128,
-        levels - 1,
-    );
+    let start = at.start;
+    let view = at.view;
+    let top = at.top;
+    let above = top + VALUE_ROOM;
+    let rest = at.len - 1;
+    lower(work, start + 1, rest, top);
+    let under = below_on(at, at.entry + 1, top, rest, above);
+    let inner = seeing(under, view + 1, at.vlen - 1);
+    put(prog, entries, ends, master, nodes, work, marks, inner);
     copy(work, view, 1, top);
-    copy(work, top + 128, len - 1, top + 1);
+    copy(work, above, rest, top + 1);
 }
 
 // 08: through X2 over what X1 shows, then through X1.
@@ -265,72 +141,27 @@ fn put_and_then(
     nodes: &[u16],
     work: &mut [u32],
     marks: &mut [u32],
-    slots: Slots,
-    entry: u8,
-    start: usize,
-    len: usize,
-    view: usize,
-    vlen: usize,
-    top: usize,
-    levels: u8,
+    at: At,
 )
-    requires { ⌜ Ready (map (entryAt (now prog)) (now entries)) (now ends) slots entry levels ⌝ }
-    requires { ⌜ PutSpace (now work) (now marks) slots start len view vlen top levels ⌝ }
-    requires { ⌜ Seen (map (entryAt (now prog)) (now entries)) (map (nodeAt (now master)) (now nodes)) (now work) slots entry start len vlen ⌝ }
-    requires { ⌜ (getD (map (entryAt (now prog)) (now entries)) entry noEntry) .operation ≡ 0x08 ⌝ }
-    ensures { λ r. ⌜ PutBy (map (entryAt (now (prog .entry))) (now (entries .entry))) (map (nodeAt (now (master .entry))) (now (nodes .entry))) (now (work .entry)) (now (marks .entry)) slots entry start len view vlen top (now (work .exit)) (now (marks .exit)) ⌝ }
+    requires { ⌜ ReadyAt (entriesOf (now prog) (now entries)) (now ends) at ⌝ }
+    requires { ⌜ PutSpaceAt (now work) (now marks) at ⌝ }
+    requires { ⌜ SeenAt (entriesOf (now prog) (now entries)) (linesOf (now master) (now nodes)) (now work) at ⌝ }
+    requires { ⌜ operationAt (entriesOf (now prog) (now entries)) at ≡ 0x08 ⌝ }
+    ensures { λ r. ⌜ (let E = entriesOf (now (prog .entry)) (now (entries .entry)) in let L = linesOf (now (master .entry)) (now (nodes .entry)) in
+        PutAt E L (now (work .entry)) (now (marks .entry)) at (now (work .exit)) (now (marks .exit))) ⌝ }
 {
-    if let Run::Value(v) = show(
-        prog,
-        entries,
-        ends,
-        master,
-        nodes,
-        work,
-        slots,
-        entry + 1,
-        start,
-        len,
-        top,
-        levels - 1,
-    ) {
+    let x1 = at.entry + 1;
+    if let Run::Value(v) = show(prog, entries, ends, master, nodes, work, below(at, x1)) {
         let n = v.len;
-        let second = after(ends, entry + 1);
-        put(
-            prog,
-            entries,
-            ends,
-            master,
-            nodes,
-            work,
-            marks,
-            slots,
-            second,
-            top,
-            n,
-            view,
-            vlen,
-            top + 128,
-            levels - 1,
-        );
-        put(
-            prog,
-            entries,
-            ends,
-            master,
-            nodes,
-            work,
-            marks,
-            slots,
-            entry + 1,
-            start,
-            len,
-            top + 128,
-            n,
-            top + 256,
-            levels - 1,
-        );
-        copy(work, top + 256, len, top);
+        let top = at.top;
+        let above = top + VALUE_ROOM;
+        let over = below_on(at, after(ends, x1), top, n, above);
+        put(prog, entries, ends, master, nodes, work, marks, over);
+        let far = top + PUT_ROOM;
+        let under = below_on(at, x1, at.start, at.len, far);
+        let first = seeing(under, above, n);
+        put(prog, entries, ends, master, nodes, work, marks, first);
+        copy(work, far, at.len, top);
     }
 }
 
@@ -343,87 +174,29 @@ fn put_beside(
     nodes: &[u16],
     work: &mut [u32],
     marks: &mut [u32],
-    slots: Slots,
-    entry: u8,
-    start: usize,
-    len: usize,
-    view: usize,
-    vlen: usize,
-    top: usize,
-    levels: u8,
+    at: At,
 )
-    requires { ⌜ Ready (map (entryAt (now prog)) (now entries)) (now ends) slots entry levels ⌝ }
-    requires { ⌜ PutSpace (now work) (now marks) slots start len view vlen top levels ⌝ }
-    requires { ⌜ Seen (map (entryAt (now prog)) (now entries)) (map (nodeAt (now master)) (now nodes)) (now work) slots entry start len vlen ⌝ }
-    requires { ⌜ (getD (map (entryAt (now prog)) (now entries)) entry noEntry) .operation ≡ 0x09 ⌝ }
-    ensures { λ r. ⌜ PutBy (map (entryAt (now (prog .entry))) (now (entries .entry))) (map (nodeAt (now (master .entry))) (now (nodes .entry))) (now (work .entry)) (now (marks .entry)) slots entry start len view vlen top (now (work .exit)) (now (marks .exit)) ⌝ }
+    requires { ⌜ ReadyAt (entriesOf (now prog) (now entries)) (now ends) at ⌝ }
+    requires { ⌜ PutSpaceAt (now work) (now marks) at ⌝ }
+    requires { ⌜ SeenAt (entriesOf (now prog) (now entries)) (linesOf (now master) (now nodes)) (now work) at ⌝ }
+    requires { ⌜ operationAt (entriesOf (now prog) (now entries)) at ≡ 0x09 ⌝ }
+    ensures { λ r. ⌜ (let E = entriesOf (now (prog .entry)) (now (entries .entry)) in let L = linesOf (now (master .entry)) (now (nodes .entry)) in
+        PutAt E L (now (work .entry)) (now (marks .entry)) at (now (work .exit)) (now (marks .exit))) ⌝ }
 {
-    let second = after(ends, entry + 1);
-    if let Run::Value(v) = show(
-        prog,
-        entries,
-        ends,
-        master,
-        nodes,
-        work,
-        slots,
-        entry + 1,
-        start,
-        len,
-        top,
-        levels - 1,
-    ) {
+    let x1 = at.entry + 1;
+    let x2 = after(ends, x1);
+    if let Run::Value(v) = show(prog, entries, ends, master, nodes, work, below(at, x1)) {
         let m = v.len;
-        if let Run::Value(u) = show(
-            prog,
-            entries,
-            ends,
-            master,
-            nodes,
-            work,
-            slots,
-            second,
-            start,
-            len,
-            top,
-            levels - 1,
-        ) {
-            let n = u.len;
-            put(
-                prog,
-                entries,
-                ends,
-                master,
-                nodes,
-                work,
-                marks,
-                slots,
-                second,
-                start,
-                len,
-                view + m,
-                n,
-                top,
-                levels - 1,
-            );
-            put(
-                prog,
-                entries,
-                ends,
-                master,
-                nodes,
-                work,
-                marks,
-                slots,
-                entry + 1,
-                start,
-                len,
-                view,
-                m,
-                top + 128,
-                levels - 1,
-            );
-            merge(work, top + 128, len, top);
+        if let Run::Value(u) = show(prog, entries, ends, master, nodes, work, below(at, x2)) {
+            let view = at.view;
+            let second = seeing(below(at, x2), view + m, u.len);
+            put(prog, entries, ends, master, nodes, work, marks, second);
+            let top = at.top;
+            let above = top + VALUE_ROOM;
+            let under = below_on(at, x1, at.start, at.len, above);
+            let first = seeing(under, view, m);
+            put(prog, entries, ends, master, nodes, work, marks, first);
+            merge(work, above, at.len, top);
         }
     }
 }
@@ -437,78 +210,41 @@ fn put_each(
     nodes: &[u16],
     work: &mut [u32],
     marks: &mut [u32],
-    slots: Slots,
-    entry: u8,
-    start: usize,
-    len: usize,
-    view: usize,
-    vlen: usize,
-    top: usize,
-    levels: u8,
+    at: At,
 )
-    requires { ⌜ Ready (map (entryAt (now prog)) (now entries)) (now ends) slots entry levels ⌝ }
-    requires { ⌜ PutSpace (now work) (now marks) slots start len view vlen top levels ⌝ }
-    requires { ⌜ Seen (map (entryAt (now prog)) (now entries)) (map (nodeAt (now master)) (now nodes)) (now work) slots entry start len vlen ⌝ }
-    requires { ⌜ (getD (map (entryAt (now prog)) (now entries)) entry noEntry) .operation ≡ 0x0A ⌝ }
-    ensures { λ r. ⌜ PutBy (map (entryAt (now (prog .entry))) (now (entries .entry))) (map (nodeAt (now (master .entry))) (now (nodes .entry))) (now (work .entry)) (now (marks .entry)) slots entry start len view vlen top (now (work .exit)) (now (marks .exit)) ⌝ }
+    requires { ⌜ ReadyAt (entriesOf (now prog) (now entries)) (now ends) at ⌝ }
+    requires { ⌜ PutSpaceAt (now work) (now marks) at ⌝ }
+    requires { ⌜ SeenAt (entriesOf (now prog) (now entries)) (linesOf (now master) (now nodes)) (now work) at ⌝ }
+    requires { ⌜ operationAt (entriesOf (now prog) (now entries)) at ≡ 0x0A ⌝ }
+    ensures { λ r. ⌜ (let E = entriesOf (now (prog .entry)) (now (entries .entry)) in let L = linesOf (now (master .entry)) (now (nodes .entry)) in
+        PutAt E L (now (work .entry)) (now (marks .entry)) at (now (work .exit)) (now (marks .exit))) ⌝ }
 {
-    let mut at: usize = 0;
+    let x = at.entry + 1;
+    let start = at.start;
+    let len = at.len;
+    let view = at.view;
+    let top = at.top;
+    let above = top + VALUE_ROOM;
+    let mut done: usize = 0;
     let mut seen: usize = 0;
-    while at < len {
-        let k = first_item(work, start + at, len - at);
-        match show(
-            prog,
-            entries,
-            ends,
-            master,
-            nodes,
-            work,
-            slots,
-            entry + 1,
-            start + at,
-            k,
-            top + 128,
-            levels - 1,
-        ) {
+    while done < len {
+        let from = start + done;
+        let k = first_item(work, from, len - done);
+        let item = below_on(at, x, from, k, above);
+        match show(prog, entries, ends, master, nodes, work, item) {
             Run::Stop(_) => {
                 return;
             }
             Run::Value(v) => {
                 let m = v.len;
-                put(
-                    prog,
-                    entries,
-                    ends,
-                    master,
-                    nodes,
-                    work,
-                    marks,
-                    slots,
-                    entry + 1,
-                    start + at,
-                    k,
-                    view + seen,
-                    m,
-                    top + at,
-                    levels - 1,
-                );
-                at += k;
+                let back = below_on(at, x, from, k, top + done);
+                let under = seeing(back, view + seen, m);
+                put(prog, entries, ends, master, nodes, work, marks, under);
+                done += k;
                 seen += m;
             }
         }
     }
-}
-
-// Where the branch stands that the test at `entry` leads to.
-fn chosen(ends: &[u8], entry: u8, yes: bool) -> u8
-    requires { ⌜ (entry < length (now ends)) × (getD (now ends) entry 0 < length (now ends)) ⌝ }
-    ensures { λ r. ⌜ r ≡ branchAt (now (ends .entry)) entry yes ⌝ }
-{
-    let first = after(ends, entry);
-    if yes {
-        return first;
-    }
-    after(ends, first)
 }
 
 // 0B: the branch that showing took, then P.
@@ -520,68 +256,22 @@ fn put_choose(
     nodes: &[u16],
     work: &mut [u32],
     marks: &mut [u32],
-    slots: Slots,
-    entry: u8,
-    start: usize,
-    len: usize,
-    view: usize,
-    vlen: usize,
-    top: usize,
-    levels: u8,
+    at: At,
 )
-    requires { ⌜ Ready (map (entryAt (now prog)) (now entries)) (now ends) slots entry levels ⌝ }
-    requires { ⌜ PutSpace (now work) (now marks) slots start len view vlen top levels ⌝ }
-    requires { ⌜ Seen (map (entryAt (now prog)) (now entries)) (map (nodeAt (now master)) (now nodes)) (now work) slots entry start len vlen ⌝ }
-    requires { ⌜ (getD (map (entryAt (now prog)) (now entries)) entry noEntry) .operation ≡ 0x0B ⌝ }
-    ensures { λ r. ⌜ PutBy (map (entryAt (now (prog .entry))) (now (entries .entry))) (map (nodeAt (now (master .entry))) (now (nodes .entry))) (now (work .entry)) (now (marks .entry)) slots entry start len view vlen top (now (work .exit)) (now (marks .exit)) ⌝ }
+    requires { ⌜ ReadyAt (entriesOf (now prog) (now entries)) (now ends) at ⌝ }
+    requires { ⌜ PutSpaceAt (now work) (now marks) at ⌝ }
+    requires { ⌜ SeenAt (entriesOf (now prog) (now entries)) (linesOf (now master) (now nodes)) (now work) at ⌝ }
+    requires { ⌜ operationAt (entriesOf (now prog) (now entries)) at ≡ 0x0B ⌝ }
+    ensures { λ r. ⌜ (let E = entriesOf (now (prog .entry)) (now (entries .entry)) in let L = linesOf (now (master .entry)) (now (nodes .entry)) in
+        PutAt E L (now (work .entry)) (now (marks .entry)) at (now (work .exit)) (now (marks .exit))) ⌝ }
 {
-    if let Tested::Says(yes) = test(
-        prog,
-        entries,
-        ends,
-        master,
-        nodes,
-        work,
-        slots,
-        entry + 1,
-        start,
-        len,
-        top,
-        levels - 1,
-    ) {
-        let branch = chosen(ends, entry + 1, yes);
-        put(
-            prog,
-            entries,
-            ends,
-            master,
-            nodes,
-            work,
-            marks,
-            slots,
-            branch,
-            start,
-            len,
-            view,
-            vlen,
-            top,
-            levels - 1,
-        );
-        put_test(
-            prog,
-            entries,
-            ends,
-            master,
-            nodes,
-            work,
-            marks,
-            slots,
-            entry + 1,
-            start,
-            len,
-            top,
-            levels - 1,
-        );
+    let x = at.entry + 1;
+    if let Tested::Says(yes) = test(prog, entries, ends, master, nodes, work, below(at, x)) {
+        let branch = chosen(ends, x, yes);
+        let taken = below(at, branch);
+        put(prog, entries, ends, master, nodes, work, marks, taken);
+        let asked = below(at, x);
+        put_test(prog, entries, ends, master, nodes, work, marks, asked);
     }
 }
 
@@ -594,43 +284,22 @@ fn put_bind(
     nodes: &[u16],
     work: &mut [u32],
     marks: &mut [u32],
-    slots: Slots,
-    entry: u8,
-    start: usize,
-    len: usize,
-    view: usize,
-    vlen: usize,
-    top: usize,
-    levels: u8,
+    at: At,
 )
-    requires { ⌜ Ready (map (entryAt (now prog)) (now entries)) (now ends) slots entry levels ⌝ }
-    requires { ⌜ PutSpace (now work) (now marks) slots start len view vlen top levels ⌝ }
-    requires { ⌜ Seen (map (entryAt (now prog)) (now entries)) (map (nodeAt (now master)) (now nodes)) (now work) slots entry start len vlen ⌝ }
-    requires { ⌜ (getD (map (entryAt (now prog)) (now entries)) entry noEntry) .operation ≡ 0x0C ⌝ }
-    ensures { λ r. ⌜ PutBy (map (entryAt (now (prog .entry))) (now (entries .entry))) (map (nodeAt (now (master .entry))) (now (nodes .entry))) (now (work .entry)) (now (marks .entry)) slots entry start len view vlen top (now (work .exit)) (now (marks .exit)) ⌝ }
+    requires { ⌜ ReadyAt (entriesOf (now prog) (now entries)) (now ends) at ⌝ }
+    requires { ⌜ PutSpaceAt (now work) (now marks) at ⌝ }
+    requires { ⌜ SeenAt (entriesOf (now prog) (now entries)) (linesOf (now master) (now nodes)) (now work) at ⌝ }
+    requires { ⌜ operationAt (entriesOf (now prog) (now entries)) at ≡ 0x0C ⌝ }
+    ensures { λ r. ⌜ (let E = entriesOf (now (prog .entry)) (now (entries .entry)) in let L = linesOf (now (master .entry)) (now (nodes .entry)) in
+        PutAt E L (now (work .entry)) (now (marks .entry)) at (now (work .exit)) (now (marks .exit))) ⌝ }
 {
-    let k = slots.count;
-    let byte = slot_at(prog, entries[entry as usize]);
-    let inner = bound(slots, byte, start, len);
-    fill(marks, 128 * k, len, UNTOUCHED);
-    put(
-        prog,
-        entries,
-        ends,
-        master,
-        nodes,
-        work,
-        marks,
-        inner,
-        entry + 1,
-        top,
-        0,
-        view,
-        vlen,
-        top,
-        levels - 1,
-    );
-    bring(work, top, marks, 128 * k, len);
+    let slots = at.slots;
+    let place = VALUE_ROOM * slots.count as usize;
+    let byte = slot_at(prog, entries[at.entry as usize]);
+    let inner = below_bound(at, byte);
+    fill(marks, place, at.len, UNTOUCHED);
+    put(prog, entries, ends, master, nodes, work, marks, inner);
+    bring(work, at.top, marks, place, at.len);
 }
 
 // P over what the branch handed back, at top. 11: locked into the source text, and X's result back locked.
@@ -642,39 +311,24 @@ fn put_test(
     nodes: &[u16],
     work: &mut [u32],
     marks: &mut [u32],
-    slots: Slots,
-    entry: u8,
-    start: usize,
-    len: usize,
-    top: usize,
-    levels: u8,
+    at: At,
 )
-    requires { ⌜ ReadyTest (map (entryAt (now prog)) (now entries)) (now ends) slots entry levels ⌝ }
-    requires { ⌜ PutSpace (now work) (now marks) slots start len start len top levels ⌝ }
-    requires { ⌜ Asked (map (entryAt (now prog)) (now entries)) (map (nodeAt (now master)) (now nodes)) (now work) slots entry start len ⌝ }
-    ensures { λ r. ⌜ TestPutBy (map (entryAt (now (prog .entry))) (now (entries .entry))) (map (nodeAt (now (master .entry))) (now (nodes .entry))) (now (work .entry)) (now (marks .entry)) slots entry start len top (now (work .exit)) (now (marks .exit)) ⌝ }
+    requires { ⌜ ReadyTestAt (entriesOf (now prog) (now entries)) (now ends) at ⌝ }
+    requires { ⌜ TestSpaceAt (now work) (now marks) at ⌝ }
+    requires { ⌜ AskedAt (entriesOf (now prog) (now entries)) (linesOf (now master) (now nodes)) (now work) at ⌝ }
+    ensures { λ r. ⌜ (let E = entriesOf (now (prog .entry)) (now (entries .entry)) in let L = linesOf (now (master .entry)) (now (nodes .entry)) in
+        TestPutAt E L (now (work .entry)) (now (marks .entry)) at (now (work .exit)) (now (marks .exit))) ⌝ }
 {
-    match operation_at(prog, entries[entry as usize]) {
+    match operation_at(prog, entries[at.entry as usize]) {
         0x11 => {
-            fill(work, top + 128, len, LOCKED);
-            merge(work, top + 128, len, top);
-            put(
-                prog,
-                entries,
-                ends,
-                master,
-                nodes,
-                work,
-                marks,
-                slots,
-                entry + 1,
-                start,
-                0,
-                top + 128,
-                len,
-                top + 256,
-                levels - 1,
-            );
+            let len = at.len;
+            let top = at.top;
+            let above = top + VALUE_ROOM;
+            fill(work, above, len, LOCKED);
+            merge(work, above, len, top);
+            let under = below_on(at, at.entry + 1, at.start, 0, top + PUT_ROOM);
+            let inner = seeing(under, above, len);
+            put(prog, entries, ends, master, nodes, work, marks, inner);
         }
         _ => {}
     }

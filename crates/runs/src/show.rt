@@ -1,18 +1,25 @@
-// Showing: each function leaves its value at `top`; below `top` nothing changes, and each level has room for 128 words.
+// Showing: each function leaves its value at `top`; below `top` nothing changes, and each level has room for a value.
+use crate::at::At;
+use crate::at::below;
+use crate::at::below_bound;
+use crate::at::below_on;
+use crate::lookup::PROGRAM;
 use crate::lookup::agree;
 use crate::lookup::has_tag;
 use crate::lookup::is_element_word;
 use crate::lookup::text_of_word;
-use crate::slots::Slots;
-use crate::slots::bound;
 use crate::slots::find;
-use crate::stop::Extent;
 use crate::stop::Run;
 use crate::stop::Stop;
 use crate::stop::Tested;
+use crate::tree::after;
+use crate::tree::chosen;
 use lines::fields::entry_text;
 use lines::fields::operation_at;
 use lines::fields::slot_at;
+use values::extents::Extent;
+use values::extents::MOST_NODES;
+use values::extents::VALUE_ROOM;
 use values::extents::copy;
 use values::nodes::first_item;
 use values::nodes::is_shallow;
@@ -21,32 +28,20 @@ use values::nodes::no_top;
 use values::nodes::raise;
 ghost use mathlib.Core.Path.{_≡_};
 ghost use mathlib.Core.Bool.{true};
-ghost use mathlib.Core.List.{[], _∷_, map};
+ghost use mathlib.Core.List.{[], _∷_};
 ghost use Prim.Native.Nat.{_+_, _≤_, _<_};
-ghost use lib.ListN.{length, getD};
-ghost use Rattle.lines.specs.Nodes.{nodeAt};
-ghost use Rattle.lines.specs.Entries.{entryAt, textOf};
+ghost use lib.ListN.{length};
 ghost use Rattle.values.specs.Values.{among};
 ghost use Rattle.values.specs.Words.{Made, nodeOf, valueAt};
 ghost use Rattle.runs.specs.Results.{gives};
-ghost use Rattle.runs.specs.Programs.{contents, tagged, isElement};
-ghost use Rattle.runs.specs.Reading.{noEntry};
+ghost use Rattle.runs.specs.Programs.{tagged, isElement};
 ghost use Rattle.runs.specs.Showing.{valueIn};
-ghost use Rattle.runs.specs.Showing.{show as rulesShow};
-ghost use Rattle.runs.specs.Showing.{test as rulesTest};
-ghost use Rattle.runs.specs.Runs.{madeBy, lookupOf, slotsAt, bytesTo, Bound, Ready, ReadyTest, Space, ShownBy, TestedBy, valueOnly, saidOf, yesOnly};
-ghost use Rattle.runs.specs.Leaves.{isOneTop, isOneElement, isOneText, Leaves};
-
-// Where the entry behind this one's subtree stands.
-pub fn after(ends: &[u8], entry: u8) -> u8
-    requires { ⌜ entry < length (now ends) ⌝ }
-    ensures { λ r. ⌜ r ≡ getD (now (ends .entry)) entry 0 ⌝ }
-{
-    ends[entry as usize]
-}
+ghost use Rattle.runs.specs.Runs.{entriesOf, linesOf, madeBy, lookupOf, slotsAt, bytesTo, Bound};
+ghost use Rattle.runs.specs.Ats.{operationAt, tagAt, ReadyAt, ReadyTestAt, SpaceAt, ShownAt, TestedAt};
+ghost use Rattle.runs.specs.Leaves.{isOneTop, isOneElement, isOneText, LeafSpaceAt, LeavesAt, ContentsAt, SaysAt};
 
 // "exactly one top node"
-pub fn one_top(work: &[u32], start: usize, len: usize) -> bool
+fn one_top(work: &[u32], start: usize, len: usize) -> bool
     requires { ⌜ start + len ≤ length (now work) ⌝ }
     ensures { λ r. ⌜ ((made : Made) → r ≡ isOneTop (valueAt made (now (work .entry)) start len)) ⌝ }
 {
@@ -67,7 +62,8 @@ fn one_element(
     len: usize,
 ) -> bool
     requires { ⌜ start + len ≤ length (now work) ⌝ }
-    ensures { λ r. ⌜ r ≡ isOneElement (lookupOf (map (nodeAt (now (master .entry))) (now (nodes .entry)))) (valueAt (madeBy (map (entryAt (now (prog .entry))) (now (entries .entry)))) (now (work .entry)) start len) ⌝ }
+    ensures { λ r. ⌜ (let made = madeBy (entriesOf (now (prog .entry)) (now (entries .entry))) in
+        r ≡ isOneElement (lookupOf (linesOf (now (master .entry)) (now (nodes .entry)))) (valueAt made (now (work .entry)) start len)) ⌝ }
 {
     if !one_top(work, start, len) {
         return false;
@@ -86,7 +82,8 @@ fn one_text(
     len: usize,
 ) -> bool
     requires { ⌜ start + len ≤ length (now work) ⌝ }
-    ensures { λ r. ⌜ r ≡ isOneText (lookupOf (map (nodeAt (now (master .entry))) (now (nodes .entry)))) (valueAt (madeBy (map (entryAt (now (prog .entry))) (now (entries .entry)))) (now (work .entry)) start len) ⌝ }
+    ensures { λ r. ⌜ (let made = madeBy (entriesOf (now (prog .entry)) (now (entries .entry))) in
+        r ≡ isOneText (lookupOf (linesOf (now (master .entry)) (now (nodes .entry)))) (valueAt made (now (work .entry)) start len)) ⌝ }
 {
     if len != 1 {
         return false;
@@ -95,35 +92,40 @@ fn one_text(
 }
 
 // 01: the source itself.
-fn show_source(work: &mut [u32], start: usize, len: usize, top: usize) -> Run
-    requires { ⌜ (start + len ≤ top) × (len ≤ 128) × (top + 128 ≤ length (now work)) ⌝ }
-    ensures { λ r. ⌜ ((made : Made) → Leaves made (now (work .entry)) top (now (work .exit)) r (gives (valueAt made (now (work .entry)) start len))) ⌝ }
+fn show_source(work: &mut [u32], at: At) -> Run
+    requires { ⌜ LeafSpaceAt (now work) at ⌝ }
+    ensures { λ r. ⌜ ((made : Made) → LeavesAt made (now (work .entry)) at (now (work .exit)) r (gives (valueAt made (now (work .entry)) (at .start) (at .len)))) ⌝ }
 {
-    copy(work, start, len, top);
+    let top = at.top;
+    let len = at.len;
+    copy(work, at.start, len, top);
     Run::Value(Extent { start: top, len })
 }
 
 // 03, 04: a text or an empty element from the program.
-fn show_made(work: &mut [u32], entry: u8, top: usize) -> Run
-    requires { ⌜ top < length (now work) ⌝ }
-    ensures { λ r. ⌜ ((made : Made) → Leaves made (now (work .entry)) top (now (work .exit)) r (gives (nodeOf made (0x8000 + entry) ∷ []))) ⌝ }
+fn show_made(work: &mut [u32], at: At) -> Run
+    requires { ⌜ at .top < length (now work) ⌝ }
+    ensures { λ r. ⌜ ((made : Made) → LeavesAt made (now (work .entry)) at (now (work .exit)) r (gives (nodeOf made (0x8000 + at .entry) ∷ []))) ⌝ }
 {
-    work[top] = 0x8000 + entry as u32;
+    let top = at.top;
+    work[top] = PROGRAM + at.entry as u32;
     Run::Value(Extent { start: top, len: 1 })
 }
 
 // 05: the value of the slot.
-fn show_slot(work: &mut [u32], slots: Slots, byte: u8, top: usize) -> Run
-    requires { ⌜ Bound slots top ⌝ }
-    requires { ⌜ top + 128 ≤ length (now work) ⌝ }
-    requires { ⌜ among byte (bytesTo slots (slots .count)) ≡ true ⌝ }
-    ensures { λ r. ⌜ ((made : Made) → Leaves made (now (work .entry)) top (now (work .exit)) r (gives (valueIn byte (slotsAt made (now (work .entry)) slots)))) ⌝ }
+fn show_slot(work: &mut [u32], at: At, byte: u8) -> Run
+    requires { ⌜ Bound (at .slots) (at .top) ⌝ }
+    requires { ⌜ at .top + 128 ≤ length (now work) ⌝ }
+    requires { ⌜ among byte (bytesTo (at .slots) (at .slots .count)) ≡ true ⌝ }
+    ensures { λ r. ⌜ ((made : Made) → LeavesAt made (now (work .entry)) at (now (work .exit)) r (gives (valueIn byte (slotsAt made (now (work .entry)) (at .slots))))) ⌝ }
 {
+    let slots = at.slots;
     let k = find(slots, byte);
     let starts = slots.starts;
     let lens = slots.lens;
-    let start = starts[k];
-    let len = lens[k];
+    let start = starts[k] as usize;
+    let len = lens[k] as usize;
+    let top = at.top;
     copy(work, start, len, top);
     Run::Value(Extent { start: top, len })
 }
@@ -135,22 +137,19 @@ fn show_contents(
     master: &[u8],
     nodes: &[u16],
     work: &mut [u32],
-    entry: u8,
-    start: usize,
-    len: usize,
-    top: usize,
+    at: At,
 ) -> Run
-    requires { ⌜ (start + len ≤ top) × (len ≤ 128) × (top + 128 ≤ length (now work)) ⌝ }
-    ensures { λ r. ⌜ Leaves (madeBy (map (entryAt (now (prog .entry))) (now (entries .entry)))) (now (work .entry)) top (now (work .exit)) r (valueOnly (rulesShow (lookupOf (map (nodeAt (now (master .entry))) (now (nodes .entry)))) (contents entry) [] (valueAt (madeBy (map (entryAt (now (prog .entry))) (now (entries .entry)))) (now (work .entry)) start len))) ⌝ }
+    requires { ⌜ LeafSpaceAt (now work) at ⌝ }
+    ensures { λ r. ⌜ (let E = entriesOf (now (prog .entry)) (now (entries .entry)) in
+        ContentsAt E (linesOf (now (master .entry)) (now (nodes .entry))) (now (work .entry)) at (now (work .exit)) r) ⌝ }
 {
-    if !one_element(prog, entries, master, nodes, work, start, len) {
-        return Run::Stop(Stop::Source(entry));
+    if !one_element(prog, entries, master, nodes, work, at.start, at.len) {
+        return Run::Stop(Stop::Source(at.entry));
     }
-    lower(work, start + 1, len - 1, top);
-    Run::Value(Extent {
-        start: top,
-        len: len - 1,
-    })
+    let top = at.top;
+    let len = at.len - 1;
+    lower(work, at.start + 1, len, top);
+    Run::Value(Extent { start: top, len })
 }
 
 // Runs the entry on the source, an extent below top.
@@ -161,111 +160,32 @@ pub fn show(
     master: &[u8],
     nodes: &[u16],
     work: &mut [u32],
-    slots: Slots,
-    entry: u8,
-    start: usize,
-    len: usize,
-    top: usize,
-    levels: u8,
+    at: At,
 ) -> Run
-    requires { ⌜ Ready (map (entryAt (now prog)) (now entries)) (now ends) slots entry levels ⌝ }
-    requires { ⌜ Space (now work) slots start len top levels ⌝ }
-    ensures { λ r. ⌜ ShownBy (map (entryAt (now (prog .entry))) (now (entries .entry))) (map (nodeAt (now (master .entry))) (now (nodes .entry))) (now (work .entry)) slots entry start len top (now (work .exit)) r ⌝ }
+    requires { ⌜ ReadyAt (entriesOf (now prog) (now entries)) (now ends) at ⌝ }
+    requires { ⌜ SpaceAt (now work) at ⌝ }
+    ensures { λ r. ⌜ (let E = entriesOf (now (prog .entry)) (now (entries .entry)) in
+        ShownAt E (linesOf (now (master .entry)) (now (nodes .entry))) (now (work .entry)) at (now (work .exit)) r) ⌝ }
 {
-    let operation = operation_at(prog, entries[entry as usize]);
+    let operation = operation_at(prog, entries[at.entry as usize]);
     match operation {
         0x01..=0x0C => match operation {
-            0x01 => show_source(work, start, len, top),
-            0x02 => Run::Value(Extent { start: top, len: 0 }),
-            0x03..=0x04 => show_made(work, entry, top),
-            0x05 => show_slot(work, slots, slot_at(prog, entries[entry as usize]), top),
-            0x06 => show_contents(prog, entries, master, nodes, work, entry, start, len, top),
-            0x07 => show_within(
-                prog,
-                entries,
-                ends,
-                master,
-                nodes,
-                work,
-                slots,
-                entry,
-                start,
-                len,
-                top,
-                levels,
-            ),
-            0x08 => show_and_then(
-                prog,
-                entries,
-                ends,
-                master,
-                nodes,
-                work,
-                slots,
-                entry,
-                start,
-                len,
-                top,
-                levels,
-            ),
-            0x09 => show_beside(
-                prog,
-                entries,
-                ends,
-                master,
-                nodes,
-                work,
-                slots,
-                entry,
-                start,
-                len,
-                top,
-                levels,
-            ),
-            0x0A => show_each(
-                prog,
-                entries,
-                ends,
-                master,
-                nodes,
-                work,
-                slots,
-                entry,
-                start,
-                len,
-                top,
-                levels,
-            ),
-            0x0B => show_choose(
-                prog,
-                entries,
-                ends,
-                master,
-                nodes,
-                work,
-                slots,
-                entry,
-                start,
-                len,
-                top,
-                levels,
-            ),
-            _ => show_bind(
-                prog,
-                entries,
-                ends,
-                master,
-                nodes,
-                work,
-                slots,
-                entry,
-                start,
-                len,
-                top,
-                levels,
-            ),
+            0x01 => show_source(work, at),
+            0x02 => Run::Value(Extent {
+                start: at.top,
+                len: 0,
+            }),
+            0x03..=0x04 => show_made(work, at),
+            0x05 => show_slot(work, at, slot_at(prog, entries[at.entry as usize])),
+            0x06 => show_contents(prog, entries, master, nodes, work, at),
+            0x07 => show_within(prog, entries, ends, master, nodes, work, at),
+            0x08 => show_and_then(prog, entries, ends, master, nodes, work, at),
+            0x09 => show_beside(prog, entries, ends, master, nodes, work, at),
+            0x0A => show_each(prog, entries, ends, master, nodes, work, at),
+            0x0B => show_choose(prog, entries, ends, master, nodes, work, at),
+            _ => show_bind(prog, entries, ends, master, nodes, work, at),
         },
-        _ => Run::Stop(Stop::Source(entry)),
+        _ => Run::Stop(Stop::Source(at.entry)),
     }
 }
 
@@ -277,51 +197,37 @@ fn show_within(
     master: &[u8],
     nodes: &[u16],
     work: &mut [u32],
-    slots: Slots,
-    entry: u8,
-    start: usize,
-    len: usize,
-    top: usize,
-    levels: u8,
+    at: At,
 ) -> Run
-    requires { ⌜ Ready (map (entryAt (now prog)) (now entries)) (now ends) slots entry levels ⌝ }
-    requires { ⌜ Space (now work) slots start len top levels ⌝ }
-    requires { ⌜ (getD (map (entryAt (now prog)) (now entries)) entry noEntry) .operation ≡ 0x07 ⌝ }
-    ensures { λ r. ⌜ ShownBy (map (entryAt (now (prog .entry))) (now (entries .entry))) (map (nodeAt (now (master .entry))) (now (nodes .entry))) (now (work .entry)) slots entry start len top (now (work .exit)) r ⌝ }
+    requires { ⌜ ReadyAt (entriesOf (now prog) (now entries)) (now ends) at ⌝ }
+    requires { ⌜ SpaceAt (now work) at ⌝ }
+    requires { ⌜ operationAt (entriesOf (now prog) (now entries)) at ≡ 0x07 ⌝ }
+    ensures { λ r. ⌜ (let E = entriesOf (now (prog .entry)) (now (entries .entry)) in
+        ShownAt E (linesOf (now (master .entry)) (now (nodes .entry))) (now (work .entry)) at (now (work .exit)) r) ⌝ }
 {
-    if !one_element(prog, entries, master, nodes, work, start, len) {
-        return Run::Stop(Stop::Source(entry));
+    if !one_element(prog, entries, master, nodes, work, at.start, at.len) {
+        return Run::Stop(Stop::Source(at.entry));
     }
-    lower(work, start + 1, len - 1, top);
-    match show(
-        prog,
-        entries,
-        ends,
-        master,
-        nodes,
-        work,
-        slots,
-        entry + 1,
-        top,
-        len - 1,
-        top + 128,
-        levels - 1,
-    ) {
+    let start = at.start;
+    let top = at.top;
+    let above = top + VALUE_ROOM;
+    let rest = at.len - 1;
+    lower(work, start + 1, rest, top);
+    let inner = below_on(at, at.entry + 1, top, rest, above);
+    match show(prog, entries, ends, master, nodes, work, inner) {
         Run::Stop(s) => Run::Stop(s),
         Run::Value(v) => {
             let n = v.len;
-            if 128 < n + 1 {
-                return Run::Stop(Stop::Size(entry));
+            let len = n + 1;
+            if MOST_NODES < len {
+                return Run::Stop(Stop::Size(at.entry));
             }
             work[top] = work[start];
-            raise(work, top + 128, n, top + 1);
-            if !is_shallow(work, top, n + 1) {
-                return Run::Stop(Stop::Size(entry));
+            raise(work, above, n, top + 1);
+            if !is_shallow(work, top, len) {
+                return Run::Stop(Stop::Size(at.entry));
             }
-            Run::Value(Extent {
-                start: top,
-                len: n + 1,
-            })
+            Run::Value(Extent { start: top, len })
         }
     }
 }
@@ -334,56 +240,29 @@ fn show_and_then(
     master: &[u8],
     nodes: &[u16],
     work: &mut [u32],
-    slots: Slots,
-    entry: u8,
-    start: usize,
-    len: usize,
-    top: usize,
-    levels: u8,
+    at: At,
 ) -> Run
-    requires { ⌜ Ready (map (entryAt (now prog)) (now entries)) (now ends) slots entry levels ⌝ }
-    requires { ⌜ Space (now work) slots start len top levels ⌝ }
-    requires { ⌜ (getD (map (entryAt (now prog)) (now entries)) entry noEntry) .operation ≡ 0x08 ⌝ }
-    ensures { λ r. ⌜ ShownBy (map (entryAt (now (prog .entry))) (now (entries .entry))) (map (nodeAt (now (master .entry))) (now (nodes .entry))) (now (work .entry)) slots entry start len top (now (work .exit)) r ⌝ }
+    requires { ⌜ ReadyAt (entriesOf (now prog) (now entries)) (now ends) at ⌝ }
+    requires { ⌜ SpaceAt (now work) at ⌝ }
+    requires { ⌜ operationAt (entriesOf (now prog) (now entries)) at ≡ 0x08 ⌝ }
+    ensures { λ r. ⌜ (let E = entriesOf (now (prog .entry)) (now (entries .entry)) in
+        ShownAt E (linesOf (now (master .entry)) (now (nodes .entry))) (now (work .entry)) at (now (work .exit)) r) ⌝ }
 {
-    let x1 = entry + 1;
+    let x1 = at.entry + 1;
     let x2 = after(ends, x1);
-    match show(
-        prog,
-        entries,
-        ends,
-        master,
-        nodes,
-        work,
-        slots,
-        x1,
-        start,
-        len,
-        top,
-        levels - 1,
-    ) {
+    let first = below(at, x1);
+    match show(prog, entries, ends, master, nodes, work, first) {
         Run::Stop(s) => Run::Stop(s),
         Run::Value(v) => {
-            let n = v.len;
-            match show(
-                prog,
-                entries,
-                ends,
-                master,
-                nodes,
-                work,
-                slots,
-                x2,
-                top,
-                n,
-                top + 128,
-                levels - 1,
-            ) {
+            let top = at.top;
+            let above = top + VALUE_ROOM;
+            let second = below_on(at, x2, top, v.len, above);
+            match show(prog, entries, ends, master, nodes, work, second) {
                 Run::Stop(s) => Run::Stop(s),
                 Run::Value(u) => {
-                    let m = u.len;
-                    copy(work, top + 128, m, top);
-                    Run::Value(Extent { start: top, len: m })
+                    let len = u.len;
+                    copy(work, above, len, top);
+                    Run::Value(Extent { start: top, len })
                 }
             }
         }
@@ -398,60 +277,30 @@ fn show_beside(
     master: &[u8],
     nodes: &[u16],
     work: &mut [u32],
-    slots: Slots,
-    entry: u8,
-    start: usize,
-    len: usize,
-    top: usize,
-    levels: u8,
+    at: At,
 ) -> Run
-    requires { ⌜ Ready (map (entryAt (now prog)) (now entries)) (now ends) slots entry levels ⌝ }
-    requires { ⌜ Space (now work) slots start len top levels ⌝ }
-    requires { ⌜ (getD (map (entryAt (now prog)) (now entries)) entry noEntry) .operation ≡ 0x09 ⌝ }
-    ensures { λ r. ⌜ ShownBy (map (entryAt (now (prog .entry))) (now (entries .entry))) (map (nodeAt (now (master .entry))) (now (nodes .entry))) (now (work .entry)) slots entry start len top (now (work .exit)) r ⌝ }
+    requires { ⌜ ReadyAt (entriesOf (now prog) (now entries)) (now ends) at ⌝ }
+    requires { ⌜ SpaceAt (now work) at ⌝ }
+    requires { ⌜ operationAt (entriesOf (now prog) (now entries)) at ≡ 0x09 ⌝ }
+    ensures { λ r. ⌜ (let E = entriesOf (now (prog .entry)) (now (entries .entry)) in
+        ShownAt E (linesOf (now (master .entry)) (now (nodes .entry))) (now (work .entry)) at (now (work .exit)) r) ⌝ }
 {
-    match show(
-        prog,
-        entries,
-        ends,
-        master,
-        nodes,
-        work,
-        slots,
-        entry + 1,
-        start,
-        len,
-        top,
-        levels - 1,
-    ) {
+    let x1 = at.entry + 1;
+    match show(prog, entries, ends, master, nodes, work, below(at, x1)) {
         Run::Stop(s) => Run::Stop(s),
         Run::Value(v) => {
             let n = v.len;
-            let second = after(ends, entry + 1);
-            match show(
-                prog,
-                entries,
-                ends,
-                master,
-                nodes,
-                work,
-                slots,
-                second,
-                start,
-                len,
-                top + n,
-                levels - 1,
-            ) {
+            let x2 = after(ends, x1);
+            let top = at.top;
+            let second = below_on(at, x2, at.start, at.len, top + n);
+            match show(prog, entries, ends, master, nodes, work, second) {
                 Run::Stop(s) => Run::Stop(s),
                 Run::Value(u) => {
-                    let m = u.len;
-                    if 128 < n + m {
-                        return Run::Stop(Stop::Size(entry));
+                    let len = n + u.len;
+                    if MOST_NODES < len {
+                        return Run::Stop(Stop::Size(at.entry));
                     }
-                    Run::Value(Extent {
-                        start: top,
-                        len: n + m,
-                    })
+                    Run::Value(Extent { start: top, len })
                 }
             }
         }
@@ -466,46 +315,35 @@ fn show_each(
     master: &[u8],
     nodes: &[u16],
     work: &mut [u32],
-    slots: Slots,
-    entry: u8,
-    start: usize,
-    len: usize,
-    top: usize,
-    levels: u8,
+    at: At,
 ) -> Run
-    requires { ⌜ Ready (map (entryAt (now prog)) (now entries)) (now ends) slots entry levels ⌝ }
-    requires { ⌜ Space (now work) slots start len top levels ⌝ }
-    requires { ⌜ (getD (map (entryAt (now prog)) (now entries)) entry noEntry) .operation ≡ 0x0A ⌝ }
-    ensures { λ r. ⌜ ShownBy (map (entryAt (now (prog .entry))) (now (entries .entry))) (map (nodeAt (now (master .entry))) (now (nodes .entry))) (now (work .entry)) slots entry start len top (now (work .exit)) r ⌝ }
+    requires { ⌜ ReadyAt (entriesOf (now prog) (now entries)) (now ends) at ⌝ }
+    requires { ⌜ SpaceAt (now work) at ⌝ }
+    requires { ⌜ operationAt (entriesOf (now prog) (now entries)) at ≡ 0x0A ⌝ }
+    ensures { λ r. ⌜ (let E = entriesOf (now (prog .entry)) (now (entries .entry)) in
+        ShownAt E (linesOf (now (master .entry)) (now (nodes .entry))) (now (work .entry)) at (now (work .exit)) r) ⌝ }
 {
-    let mut at: usize = 0;
+    let x = at.entry + 1;
+    let start = at.start;
+    let len = at.len;
+    let top = at.top;
+    let mut done: usize = 0;
     let mut n: usize = 0;
-    while at < len {
-        let k = first_item(work, start + at, len - at);
-        match show(
-            prog,
-            entries,
-            ends,
-            master,
-            nodes,
-            work,
-            slots,
-            entry + 1,
-            start + at,
-            k,
-            top + n,
-            levels - 1,
-        ) {
+    while done < len {
+        let from = start + done;
+        let k = first_item(work, from, len - done);
+        let item = below_on(at, x, from, k, top + n);
+        match show(prog, entries, ends, master, nodes, work, item) {
             Run::Stop(s) => {
                 return Run::Stop(s);
             }
             Run::Value(v) => {
-                let more = v.len;
-                if 128 < n + more {
-                    return Run::Stop(Stop::Size(entry));
+                let more = n + v.len;
+                if MOST_NODES < more {
+                    return Run::Stop(Stop::Size(at.entry));
                 }
-                n += more;
-                at += k;
+                n = more;
+                done += k;
             }
         }
     }
@@ -520,66 +358,20 @@ fn show_choose(
     master: &[u8],
     nodes: &[u16],
     work: &mut [u32],
-    slots: Slots,
-    entry: u8,
-    start: usize,
-    len: usize,
-    top: usize,
-    levels: u8,
+    at: At,
 ) -> Run
-    requires { ⌜ Ready (map (entryAt (now prog)) (now entries)) (now ends) slots entry levels ⌝ }
-    requires { ⌜ Space (now work) slots start len top levels ⌝ }
-    requires { ⌜ (getD (map (entryAt (now prog)) (now entries)) entry noEntry) .operation ≡ 0x0B ⌝ }
-    ensures { λ r. ⌜ ShownBy (map (entryAt (now (prog .entry))) (now (entries .entry))) (map (nodeAt (now (master .entry))) (now (nodes .entry))) (now (work .entry)) slots entry start len top (now (work .exit)) r ⌝ }
+    requires { ⌜ ReadyAt (entriesOf (now prog) (now entries)) (now ends) at ⌝ }
+    requires { ⌜ SpaceAt (now work) at ⌝ }
+    requires { ⌜ operationAt (entriesOf (now prog) (now entries)) at ≡ 0x0B ⌝ }
+    ensures { λ r. ⌜ (let E = entriesOf (now (prog .entry)) (now (entries .entry)) in
+        ShownAt E (linesOf (now (master .entry)) (now (nodes .entry))) (now (work .entry)) at (now (work .exit)) r) ⌝ }
 {
-    match test(
-        prog,
-        entries,
-        ends,
-        master,
-        nodes,
-        work,
-        slots,
-        entry + 1,
-        start,
-        len,
-        top,
-        levels - 1,
-    ) {
+    let x = at.entry + 1;
+    match test(prog, entries, ends, master, nodes, work, below(at, x)) {
         Tested::Stop(s) => Run::Stop(s),
         Tested::Says(yes) => {
-            let first = after(ends, entry + 1);
-            if yes {
-                return show(
-                    prog,
-                    entries,
-                    ends,
-                    master,
-                    nodes,
-                    work,
-                    slots,
-                    first,
-                    start,
-                    len,
-                    top,
-                    levels - 1,
-                );
-            }
-            let second = after(ends, first);
-            show(
-                prog,
-                entries,
-                ends,
-                master,
-                nodes,
-                work,
-                slots,
-                second,
-                start,
-                len,
-                top,
-                levels - 1,
-            )
+            let branch = below(at, chosen(ends, x, yes));
+            show(prog, entries, ends, master, nodes, work, branch)
         }
     }
 }
@@ -592,34 +384,17 @@ fn show_bind(
     master: &[u8],
     nodes: &[u16],
     work: &mut [u32],
-    slots: Slots,
-    entry: u8,
-    start: usize,
-    len: usize,
-    top: usize,
-    levels: u8,
+    at: At,
 ) -> Run
-    requires { ⌜ Ready (map (entryAt (now prog)) (now entries)) (now ends) slots entry levels ⌝ }
-    requires { ⌜ Space (now work) slots start len top levels ⌝ }
-    requires { ⌜ (getD (map (entryAt (now prog)) (now entries)) entry noEntry) .operation ≡ 0x0C ⌝ }
-    ensures { λ r. ⌜ ShownBy (map (entryAt (now (prog .entry))) (now (entries .entry))) (map (nodeAt (now (master .entry))) (now (nodes .entry))) (now (work .entry)) slots entry start len top (now (work .exit)) r ⌝ }
+    requires { ⌜ ReadyAt (entriesOf (now prog) (now entries)) (now ends) at ⌝ }
+    requires { ⌜ SpaceAt (now work) at ⌝ }
+    requires { ⌜ operationAt (entriesOf (now prog) (now entries)) at ≡ 0x0C ⌝ }
+    ensures { λ r. ⌜ (let E = entriesOf (now (prog .entry)) (now (entries .entry)) in
+        ShownAt E (linesOf (now (master .entry)) (now (nodes .entry))) (now (work .entry)) at (now (work .exit)) r) ⌝ }
 {
-    let byte = slot_at(prog, entries[entry as usize]);
-    let inner = bound(slots, byte, start, len);
-    show(
-        prog,
-        entries,
-        ends,
-        master,
-        nodes,
-        work,
-        inner,
-        entry + 1,
-        top,
-        0,
-        top,
-        levels - 1,
-    )
+    let byte = slot_at(prog, entries[at.entry as usize]);
+    let inner = below_bound(at, byte);
+    show(prog, entries, ends, master, nodes, work, inner)
 }
 
 // Runs the test on the source.
@@ -630,38 +405,21 @@ pub fn test(
     master: &[u8],
     nodes: &[u16],
     work: &mut [u32],
-    slots: Slots,
-    entry: u8,
-    start: usize,
-    len: usize,
-    top: usize,
-    levels: u8,
+    at: At,
 ) -> Tested
-    requires { ⌜ ReadyTest (map (entryAt (now prog)) (now entries)) (now ends) slots entry levels ⌝ }
-    requires { ⌜ Space (now work) slots start len top levels ⌝ }
-    ensures { λ r. ⌜ TestedBy (map (entryAt (now (prog .entry))) (now (entries .entry))) (map (nodeAt (now (master .entry))) (now (nodes .entry))) (now (work .entry)) slots entry start len top (now (work .exit)) r ⌝ }
+    requires { ⌜ ReadyTestAt (entriesOf (now prog) (now entries)) (now ends) at ⌝ }
+    requires { ⌜ SpaceAt (now work) at ⌝ }
+    ensures { λ r. ⌜ (let E = entriesOf (now (prog .entry)) (now (entries .entry)) in
+        TestedAt E (linesOf (now (master .entry)) (now (nodes .entry))) (now (work .entry)) at (now (work .exit)) r) ⌝ }
 {
-    let operation = operation_at(prog, entries[entry as usize]);
+    let operation = operation_at(prog, entries[at.entry as usize]);
     match operation {
         0x11..=0x13 => match operation {
-            0x11 => test_equals(
-                prog,
-                entries,
-                ends,
-                master,
-                nodes,
-                work,
-                slots,
-                entry,
-                start,
-                len,
-                top,
-                levels,
-            ),
-            0x12 => test_tagged(prog, entries, master, nodes, work, entry, start, len),
-            _ => test_element(prog, entries, master, nodes, work, entry, start, len),
+            0x11 => test_equals(prog, entries, ends, master, nodes, work, at),
+            0x12 => test_tagged(prog, entries, master, nodes, work, at),
+            _ => test_element(prog, entries, master, nodes, work, at),
         },
-        _ => Tested::Stop(Stop::Source(entry)),
+        _ => Tested::Stop(Stop::Source(at.entry)),
     }
 }
 
@@ -673,40 +431,26 @@ fn test_equals(
     master: &[u8],
     nodes: &[u16],
     work: &mut [u32],
-    slots: Slots,
-    entry: u8,
-    start: usize,
-    len: usize,
-    top: usize,
-    levels: u8,
+    at: At,
 ) -> Tested
-    requires { ⌜ ReadyTest (map (entryAt (now prog)) (now entries)) (now ends) slots entry levels ⌝ }
-    requires { ⌜ Space (now work) slots start len top levels ⌝ }
-    requires { ⌜ (getD (map (entryAt (now prog)) (now entries)) entry noEntry) .operation ≡ 0x11 ⌝ }
-    ensures { λ r. ⌜ TestedBy (map (entryAt (now (prog .entry))) (now (entries .entry))) (map (nodeAt (now (master .entry))) (now (nodes .entry))) (now (work .entry)) slots entry start len top (now (work .exit)) r ⌝ }
+    requires { ⌜ ReadyTestAt (entriesOf (now prog) (now entries)) (now ends) at ⌝ }
+    requires { ⌜ SpaceAt (now work) at ⌝ }
+    requires { ⌜ operationAt (entriesOf (now prog) (now entries)) at ≡ 0x11 ⌝ }
+    ensures { λ r. ⌜ (let E = entriesOf (now (prog .entry)) (now (entries .entry)) in
+        TestedAt E (linesOf (now (master .entry)) (now (nodes .entry))) (now (work .entry)) at (now (work .exit)) r) ⌝ }
 {
-    if !one_text(prog, entries, master, nodes, work, start, len) {
-        return Tested::Stop(Stop::Source(entry));
+    if !one_text(prog, entries, master, nodes, work, at.start, at.len) {
+        return Tested::Stop(Stop::Source(at.entry));
     }
-    match show(
-        prog,
-        entries,
-        ends,
-        master,
-        nodes,
-        work,
-        slots,
-        entry + 1,
-        top,
-        0,
-        top,
-        levels - 1,
-    ) {
+    let start = at.start;
+    let top = at.top;
+    let inner = below_on(at, at.entry + 1, top, 0, top);
+    match show(prog, entries, ends, master, nodes, work, inner) {
         Run::Stop(s) => Tested::Stop(s),
         Run::Value(v) => {
             let n = v.len;
             if !one_text(prog, entries, master, nodes, work, top, n) {
-                return Tested::Stop(Stop::Source(entry));
+                return Tested::Stop(Stop::Source(at.entry));
             }
             let source = text_of_word(prog, entries, nodes, work[start]);
             let other = text_of_word(prog, entries, nodes, work[top]);
@@ -722,19 +466,19 @@ fn test_tagged(
     master: &[u8],
     nodes: &[u16],
     work: &[u32],
-    entry: u8,
-    start: usize,
-    len: usize,
+    at: At,
 ) -> Tested
-    requires { ⌜ start + len ≤ length (now work) ⌝ }
-    requires { ⌜ (getD (map (entryAt (now prog)) (now entries)) entry noEntry) .operation ≡ 0x12 ⌝ }
-    ensures { λ r. ⌜ saidOf r ≡ yesOnly (rulesTest (lookupOf (map (nodeAt (now (master .entry))) (now (nodes .entry)))) (tagged entry (textOf (getD (map (entryAt (now (prog .entry))) (now (entries .entry))) entry noEntry))) [] (valueAt (madeBy (map (entryAt (now (prog .entry))) (now (entries .entry)))) (now (work .entry)) start len)) ⌝ }
+    requires { ⌜ at .start + at .len ≤ length (now work) ⌝ }
+    requires { ⌜ operationAt (entriesOf (now prog) (now entries)) at ≡ 0x12 ⌝ }
+    ensures { λ r. ⌜ (let E = entriesOf (now (prog .entry)) (now (entries .entry)) in
+        SaysAt E (linesOf (now (master .entry)) (now (nodes .entry))) (now (work .entry)) at r (tagged (at .entry) (tagAt E at))) ⌝ }
 {
-    if !one_element(prog, entries, master, nodes, work, start, len) {
-        return Tested::Stop(Stop::Source(entry));
+    if !one_element(prog, entries, master, nodes, work, at.start, at.len) {
+        return Tested::Stop(Stop::Source(at.entry));
     }
+    let start = at.start;
     let node = text_of_word(prog, entries, nodes, work[start]);
-    let tag = entry_text(entries[entry as usize]);
+    let tag = entry_text(entries[at.entry as usize]);
     Tested::Says(has_tag(prog, master, node, tag))
 }
 
@@ -745,15 +489,15 @@ fn test_element(
     master: &[u8],
     nodes: &[u16],
     work: &[u32],
-    entry: u8,
-    start: usize,
-    len: usize,
+    at: At,
 ) -> Tested
-    requires { ⌜ start + len ≤ length (now work) ⌝ }
-    ensures { λ r. ⌜ saidOf r ≡ yesOnly (rulesTest (lookupOf (map (nodeAt (now (master .entry))) (now (nodes .entry)))) (isElement entry) [] (valueAt (madeBy (map (entryAt (now (prog .entry))) (now (entries .entry)))) (now (work .entry)) start len)) ⌝ }
+    requires { ⌜ at .start + at .len ≤ length (now work) ⌝ }
+    ensures { λ r. ⌜ (let E = entriesOf (now (prog .entry)) (now (entries .entry)) in
+        SaysAt E (linesOf (now (master .entry)) (now (nodes .entry))) (now (work .entry)) at r (isElement (at .entry))) ⌝ }
 {
-    if !one_top(work, start, len) {
-        return Tested::Stop(Stop::Source(entry));
+    if !one_top(work, at.start, at.len) {
+        return Tested::Stop(Stop::Source(at.entry));
     }
+    let start = at.start;
     Tested::Says(is_element_word(prog, entries, master, nodes, work[start]))
 }

@@ -2,13 +2,13 @@
 ghost use mathlib.Core.Path.{_≡_};
 ghost use Prim.Native.Nat.{_<_, _≤_};
 ghost use lib.ListN.{length};
-ghost use Rattle.runs.specs.SlotWords.{noSlots, oneMore, innermost};
+ghost use Rattle.runs.specs.SlotWords.{noSlots, oneMore, boundTo};
 
 pub struct Slots {
+    pub starts: [u16; 4],
     pub bytes: [u8; 4],
-    pub starts: [usize; 4],
-    pub lens: [usize; 4],
-    pub count: usize,
+    pub lens: [u8; 4],
+    pub count: u8,
 }
 
 // No slot.
@@ -16,9 +16,9 @@ pub fn no_slots() -> Slots
     ensures { λ r. ⌜ r ≡ noSlots ⌝ }
 {
     Slots {
+        starts: [0u16; 4],
         bytes: [0u8; 4],
-        starts: [0usize; 4],
-        lens: [0usize; 4],
+        lens: [0u8; 4],
         count: 0,
     }
 }
@@ -26,25 +26,25 @@ pub fn no_slots() -> Slots
 // One slot more, the innermost.
 pub fn bound(slots: Slots, byte: u8, start: usize, len: usize) -> Slots
     requires { ⌜ (length (slots .bytes) ≡ 4) × (length (slots .starts) ≡ 4) × (length (slots .lens) ≡ 4) ⌝ }
-    requires { ⌜ slots .count < 4 ⌝ }
+    requires { ⌜ (slots .count < 4) × (start < 0x10000) × (len < 0x100) ⌝ }
     ensures { λ r. ⌜ r ≡ oneMore slots byte start len ⌝ }
 {
     let mut inner = slots;
-    let k = slots.count;
+    let k = slots.count as usize;
     inner.bytes[k] = byte;
-    inner.starts[k] = start;
-    inner.lens[k] = len;
-    inner.count = k + 1;
+    inner.starts[k] = start as u16;
+    inner.lens[k] = len as u8;
+    inner.count = slots.count + 1;
     inner
 }
 
 // The innermost slot of this byte, by its place from the outermost; the number of slots where there is none.
 pub fn find(slots: Slots, byte: u8) -> usize
     requires { ⌜ (length (slots .bytes) ≡ 4) × (slots .count ≤ 4) ⌝ }
-    ensures { λ r. ⌜ r ≡ innermost (slots .bytes) (slots .count) byte (slots .count) ⌝ }
+    ensures { λ r. ⌜ r ≡ boundTo slots byte ⌝ }
 {
     let bytes = slots.bytes;
-    let count = slots.count;
+    let count = slots.count as usize;
     let mut k = count;
     while 0 < k {
         k -= 1;

@@ -1,12 +1,9 @@
 // What a run answers: a value's extent, or a stop that says which kind and which entry.
+use values::extents::Extent;
+
 pub enum Stop {
     Source(u8),
     Size(u8),
-}
-
-pub struct Extent {
-    pub start: usize,
-    pub len: usize,
 }
 
 pub enum Run {

@@ -6,12 +6,17 @@ use lines::table::class_of;
 use lines::table::row_of;
 ghost use mathlib.Core.Path.{_≡_};
 ghost use mathlib.Core.Bool.{true, false};
-ghost use Prim.Native.Nat.{_≤_};
+ghost use Prim.Native.Nat.{_≤_, _<_};
+ghost use lib.ListN.{length, getD};
 ghost use Rattle.lines.specs.Entries.{classOf, rowOf};
 ghost use Rattle.values.specs.Values.{among};
 ghost use Rattle.runs.specs.Reading.{wholeRoom, insideEach, insideBind};
-ghost use Rattle.runs.specs.Ends.{stands, endOf, endBelow, endAt};
-ghost use Rattle.runs.specs.Checking.{roomOf, Kept, mayStand, inside, entriesOf, Sized, CheckedFrom, CheckedWhole};
+ghost use Rattle.runs.specs.Runs.{entriesOf};
+ghost use Rattle.runs.specs.Ends.{stands, endOf, endBelow, endAt, branchAt};
+ghost use Rattle.runs.specs.Checking.{roomOf, Kept, mayStand, inside, Sized, CheckedFrom, CheckedWhole};
+
+// "no entry is at level 13"
+pub const LEVELS: u8 = 12;
 
 // What may still stand below an entry, and the slots bound there.
 pub struct Room {
@@ -180,7 +185,8 @@ fn check_below(
     requires { ⌜ Sized (now entries) (now ends) ⌝ }
     requires { ⌜ Kept room ⌝ }
     ensures { λ r. ⌜ (let E = entriesOf (now (prog .entry)) (now (entries .entry)) in
-        CheckedFrom E (now (ends .entry)) (now (ends .exit)) entry (endBelow (endAt E levels (roomOf room) false) (endAt E levels (roomOf room) true) (rowOf operation .1) entry) r) ⌝ }
+        let ends-of = endAt E levels (roomOf room) in
+        CheckedFrom E (now (ends .entry)) (now (ends .exit)) entry (endBelow (ends-of false) (ends-of true) (rowOf operation .1) entry) r) ⌝ }
 {
     let row = row_of(operation);
     let subs = row.1;
@@ -225,7 +231,8 @@ fn check_choice(
     requires { ⌜ Sized (now entries) (now ends) ⌝ }
     requires { ⌜ Kept room ⌝ }
     ensures { λ r. ⌜ (let E = entriesOf (now (prog .entry)) (now (entries .entry)) in
-        CheckedFrom E (now (ends .entry)) (now (ends .exit)) entry (endBelow (endAt E levels (roomOf room) false) (endAt E levels (roomOf room) true) 3 entry) r) ⌝ }
+        let ends-of = endAt E levels (roomOf room) in
+        CheckedFrom E (now (ends .entry)) (now (ends .exit)) entry (endBelow (ends-of false) (ends-of true) 3 entry) r) ⌝ }
 {
     let test = check_at(prog, entries, ends, true, entry, levels, room);
     match test {
@@ -240,7 +247,7 @@ pub fn check_program(prog: &[u8], entries: &[u16], ends: &mut [u8]) -> Checked
     ensures { λ r. ⌜ CheckedWhole (entriesOf (now (prog .entry)) (now (entries .entry))) (now (ends .exit)) r ⌝ }
 {
     let room = whole_room();
-    let tree = check_at(prog, entries, ends, false, 0, 12, room);
+    let tree = check_at(prog, entries, ends, false, 0, LEVELS, room);
     match tree {
         Checked::Fault(p) => Checked::Fault(p),
         Checked::Next(next) => {
@@ -250,4 +257,24 @@ pub fn check_program(prog: &[u8], entries: &[u16], ends: &mut [u8]) -> Checked
             Checked::Next(next)
         }
     }
+}
+
+// Where the entry behind this one's subtree stands.
+pub fn after(ends: &[u8], entry: u8) -> u8
+    requires { ⌜ entry < length (now ends) ⌝ }
+    ensures { λ r. ⌜ r ≡ getD (now (ends .entry)) entry 0 ⌝ }
+{
+    ends[entry as usize]
+}
+
+// Where the branch stands that the test at `entry` leads to.
+pub fn chosen(ends: &[u8], entry: u8, yes: bool) -> u8
+    requires { ⌜ (entry < length (now ends)) × (getD (now ends) entry 0 < length (now ends)) ⌝ }
+    ensures { λ r. ⌜ r ≡ branchAt (now (ends .entry)) entry yes ⌝ }
+{
+    let first = after(ends, entry);
+    if yes {
+        return first;
+    }
+    after(ends, first)
 }

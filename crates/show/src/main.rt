@@ -1,4 +1,6 @@
 // Shows master.hex through program.hex.
+use calls::room::OUT_ROOM;
+use calls::room::WORK_ROOM;
 use shell::print::print_first;
 use shell::print::print_reply;
 use shell::print::print_unreadable;
@@ -20,8 +22,8 @@ fn main() {
     }
     let m = of_master.count;
     let p = of_program.count;
-    let mut out = [0u8; 9856];
-    let mut work = [0u32; 16384];
+    let mut out = [0u8; OUT_ROOM];
+    let mut work = [0u32; WORK_ROOM];
     let reply = calls::show::show(&master[0..m], &program[0..p], &mut out, &mut work);
     print_reply(reply.number, reply.place, reply.length);
     print_first(&out, reply.length as usize);

@@ -85,7 +85,8 @@ module _ (made : Made) (w : List ℕ) (start len i : ℕ) (fits : start + len �
   pub rest-cons : i < len → valueAt made w (start + i) (len - i) ≡ nodeOf made (getD w (start + i) 0) ∷ valueAt made w (start + (i + 1)) (len - (i + 1))
   rest-cons h =
       ap (valueAt made w (start + i)) (let z : len - i ≡ (len - (i + 1)) + 1 = omega arith in z)
-      ∙ (value-cons made w (start + i) (len - (i + 1)) (omega arith) ∙ ap (λ (k : ℕ). nodeOf made (getD w (start + i) 0) ∷ valueAt made w k (len - (i + 1))) (let z : start + i + 1 ≡ start + (i + 1) = omega arith in z))
+      ∙ (value-cons made w (start + i) (len - (i + 1)) (omega arith)
+      ∙ ap (λ (k : ℕ). nodeOf made (getD w (start + i) 0) ∷ valueAt made w k (len - (i + 1))) (let z : start + i + 1 ≡ start + (i + 1) = omega arith in z))
 
 -- a top node, any other node, and nothing
 module _ (made : Made) (x : ℕ) (v : Value) where

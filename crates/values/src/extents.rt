@@ -6,6 +6,18 @@ ghost use lib.ListN.{length, replicate};
 ghost use Rattle.lines.specs.Writing.{putAt};
 ghost use Rattle.values.specs.Words.{part};
 
+// "A value has at most 128 nodes"
+pub const MOST_NODES: usize = 128;
+
+// So many words are room for any value.
+pub const VALUE_ROOM: usize = MOST_NODES;
+
+// Where a value's words lie.
+pub struct Extent {
+    pub start: usize,
+    pub len: usize,
+}
+
 // To a place before the extent, or behind it.
 pub fn copy(work: &mut [u32], from: usize, len: usize, to: usize)
     requires { ⌜ (from + len ≤ length (now work)) × (to + len ≤ length (now work)) ⌝ }

@@ -37,7 +37,8 @@ use Rattle.calls.specs.Theorems.Replies.{put-front}
 use Rattle.calls.specs.Theorems.LineRules.{fields-at, rule-kind}
 use Rattle.calls.specs.Theorems.FreshLines.{fresh-writable, length-view}
 use Rattle.calls.specs.Theorems.Returned.{Returned, returned-writable}
-use Rattle.calls.specs.Theorems.Demands.{numberOf, placeOf, written, FromProgram, FromMaster, Given, EditedLine, Acceptable, Clashes, withEdit, HasEdits, SameLines, Answers, Demand3}
+use Rattle.calls.specs.Theorems.Demands.{numberOf, placeOf, written, FromProgram, FromMaster, Given, EditedLine, Acceptable}
+use Rattle.calls.specs.Theorems.Demands.{Clashes, withEdit, HasEdits, SameLines, Answers, Demand3}
 use Rattle.calls.specs.Theorems.Demand12.{called-gives, called-stops}
 use Rattle.calls.specs.Theorems.ViewEdits.{none-faulty, unmarked-zero, zero-unmarked, edits-pass, pass-edits}
 use Rattle.calls.specs.Theorems.ShownNumbers.{line-of, number-copy, copy-or-made, shown-number, view-unmarked, handed-kind}

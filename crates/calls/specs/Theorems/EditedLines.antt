@@ -10,7 +10,7 @@ use borrow.Author.Tests.{leb-true, eqb-true, eqb-false, not-true}
 use Rattle.lines.specs.Nodes.{untouchedMark, changedMark, deletedMark, isMarked, isElement, isTag, kindRule}
 use Rattle.lines.specs.Nodes.{Node as Line}
 use Rattle.lines.specs.Theorems.Bools.{never, and-left, and-right, or-cases}
-use Rattle.values.specs.Standings.{changed, deleted, untouched, sort, brings, isEdit, handsBack}
+use Rattle.values.specs.Standings.{changed, deleted, sort, brings, isEdit, handsBack}
 use Rattle.calls.specs.Theorems.Demands.{SameEdit, withEdit}
 
 -- changed or deleted

@@ -1,8 +1,8 @@
 -- The lines handed back can be written again, are as many as the master's, and keep its bounds. So the returned master is sound.
-use mathlib.Core.Path.{_≡_, refl, sym, ap, subst, _∙_}
+use mathlib.Core.Path.{_≡_, sym, subst, _∙_}
 use mathlib.Core.Bool.{true, false}
-use mathlib.Core.List.{List, [], _∷_}
-use Prim.Native.Nat.{ℕ, suc, _≤_, _<_}
+use mathlib.Core.List.{List}
+use Prim.Native.Nat.{ℕ, _≤_, _<_}
 use native.Mathlib.Omega.{arith}
 use lib.ListN.{length, take, getD}
 use Rattle.lines.specs.declared.verdict.Verdict.the-variants.{Fine}
@@ -10,7 +10,6 @@ use Rattle.lines.specs.Nodes.{Node as Line}
 use Rattle.lines.specs.Masters.{masterBounds}
 use Rattle.lines.specs.Views.{firstDifference}
 use Rattle.lines.specs.Writing.{AllWritable, fileOf}
-use Rattle.values.specs.Standings.{Standing}
 use Rattle.runs.specs.Results.{gives}
 use Rattle.runs.specs.Programs.{Transformation}
 use Rattle.runs.specs.Showing.{Shown}

@@ -25,7 +25,8 @@ first-kept (suc k) [] h = refl
 first-kept zero (x ∷ s) h = absurd (let z = first-some (x ∷ s) (omega arith) in omega arith)
 first-kept (suc k) (x ∷ s) h = go (eqb x 0x0A) h (λ g. first-kept k s g)
   where
-    go : (t : Bool) → cond t 1 (suc (lineLength s)) ≤ suc k → (lineLength s ≤ k → lineLength (take k s) ≡ lineLength s) → cond t 1 (suc (lineLength (take k s))) ≡ cond t 1 (suc (lineLength s))
+    go : (t : Bool) → cond t 1 (suc (lineLength s)) ≤ suc k → (lineLength s ≤ k → lineLength (take k s) ≡ lineLength s)
+        → cond t 1 (suc (lineLength (take k s))) ≡ cond t 1 (suc (lineLength s))
     go true g ih = refl
     go false g ih = ap suc (ih (le-of-suc-le-suc g))
 

@@ -211,4 +211,5 @@ unfolding starts
 noted-starts file s before noted n r =
     let c = scan-count file s n (sym (r .answer)) in
     let l = length-starts 0 (cut s) in
-    rw (r .places) (take-append-le n (take n (starts s)) (drop n before) (omega (arith, length-take-le n (starts s) (omega arith))) ∙ (take-take n n (starts s) (omega arith) ∙ take-all n (starts s) (omega arith)))
+    rw (r .places) (take-append-le n (take n (starts s)) (drop n before) (omega (arith, length-take-le n (starts s) (omega arith)))
+    ∙ (take-take n n (starts s) (omega arith) ∙ take-all n (starts s) (omega arith)))

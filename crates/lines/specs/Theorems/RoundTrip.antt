@@ -47,7 +47,9 @@ written-line n g =
 -- bytes of a node's form are the bytes of their node
 bytes-node : (b : List ℕ) → Bytes b → nodeForm b ≡ true → bytesOf (nodeOf b) ≡ b
 unfolding bytesOf nodeForm
-bytes-node b small e = six b small (leb-true 6 (length b) (and-left (leb 6 (length b)) _ e)) (eqb-true (length b) (6 + getD b 5 0) (and-left (eqb (length b) (6 + getD b 5 0)) _ (and-right (leb 6 (length b)) _ e)))
+bytes-node b small e =
+    six b small (leb-true 6 (length b) (and-left (leb 6 (length b)) _ e))
+    (eqb-true (length b) (6 + getD b 5 0) (and-left (eqb (length b) (6 + getD b 5 0)) _ (and-right (leb 6 (length b)) _ e)))
   where
     six : (b : List ℕ) → Bytes b → 6 ≤ length b → length b ≡ 6 + getD b 5 0 → bytesOf (nodeOf b) ≡ b
     six [] small h q = absurd (omega arith)

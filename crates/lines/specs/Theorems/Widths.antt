@@ -94,7 +94,8 @@ module _ (form : List ℕ → Bool) (limit width : ℕ) (wide : (c : List ℕ) �
   taken-few n [] h = h
   taken-few n (c ∷ cs) h = go (ltb n limit) (form c) refl (λ g. taken-few (suc n) cs g)
     where
-      go : (t u : Bool) → ltb n limit ≡ t → (suc n ≤ limit → taken (scanFrom form limit (suc n) cs) ≤ limit) → taken (cond (t && u) (scanFrom form limit (suc n) cs) (Wrong n)) ≤ limit
+      go : (t u : Bool) → ltb n limit ≡ t → (suc n ≤ limit → taken (scanFrom form limit (suc n) cs) ≤ limit)
+          → taken (cond (t && u) (scanFrom form limit (suc n) cs) (Wrong n)) ≤ limit
       go true true q ih = ih (ltb-true n limit q)
       go true false q ih = h
       go false u q ih = h

@@ -3,7 +3,8 @@ use Prim.Native.Nat.{ℕ, zero, suc}
 use mathlib.Core.Bool.{Bool, _&&_}
 use mathlib.Core.List.{List, [], _∷_}
 use Rattle.lines.specs.Texts.{sameText}
-use Rattle.runs.specs.Paper.Data.{Updating, ori, non, mod′, del, ElementUpdating, oriE, delE, From, src, code, Sequence, none, str, elt, _⧺_, May, fail, got, _>>=_, _>>_, provided, isNone, sameFrom}
+use Rattle.runs.specs.Paper.Data.{Updating, ori, non, mod′, del, ElementUpdating, oriE, delE, From, src, code, Sequence}
+use Rattle.runs.specs.Paper.Data.{none, str, elt, _⧺_, May, fail, got, _>>=_, _>>_, provided, isNone, sameFrom}
 use Rattle.runs.specs.Paper.Contexts.{PairContext}
 
 -- ## Fig. 5

@@ -1,5 +1,6 @@
 -- Document 01's operations in the paper's names.
-use Rattle.runs.specs.Programs.{equals, Transformation, source, nothing, text, tag, slot, contents, within, andThen, beside, each, choose, bind, Test, compares, tagged, isElement}
+use Rattle.runs.specs.Programs.{equals, Transformation, source, nothing, text, tag, slot, contents, within}
+use Rattle.runs.specs.Programs.{andThen, beside, each, choose, bind, Test, compares, tagged, isElement}
 use Rattle.runs.specs.Paper.Data.{ori, oriE, code, none, str, elt}
 use Rattle.runs.specs.Paper.Language.{Construct, xid, xconst, xvar, xchild, xsetcnt, xseq, xpar, xmap, xif, xlet, Predicate, xeq, xwithtag, xiselement}
 

@@ -4,7 +4,8 @@ use mathlib.Core.Bool.{Bool, true, false, cond, _&&_}
 use mathlib.Core.List.{List, [], _∷_}
 use lib.Dec.{eqb}
 use Rattle.lines.specs.Texts.{sameText}
-use Rattle.runs.specs.Paper.Data.{ori, non, mod′, del, oriE, delE, src, code, Sequence, none, str, elt, _⧺_, len, May, fail, got, _>>=_, _>>_, provided, isNone, theString, theElement, theItem, sameFrom, sameSequence}
+use Rattle.runs.specs.Paper.Data.{ori, non, mod′, del, oriE, delE, src, code, Sequence, none, str, elt, _⧺_, len, May, fail}
+use Rattle.runs.specs.Paper.Data.{got, _>>=_, _>>_, provided, isNone, theString, theElement, theItem, sameFrom, sameSequence}
 use Rattle.runs.specs.Paper.Language.{Construct, xid, xconst, xvar, xchild, xsetcnt, xseq, xpar, xmap, xif, xlet, Predicate, xeq, xwithtag, xiselement}
 use Rattle.runs.specs.Paper.Contexts.{Context, PairContext, firsts, find}
 use Rattle.runs.specs.Paper.Operators.{mg, split, inTwo, Backward, iter, Guard}

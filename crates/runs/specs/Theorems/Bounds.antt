@@ -13,7 +13,8 @@ use Rattle.lines.specs.Nodes.{Node as Line}
 use Rattle.lines.specs.Masters.{depthAfter, placed, boundsFrom, masterBounds}
 use Rattle.values.specs.Values.{master, Node, Value, Lookup, elementOf, made, raised, items, mostNodes}
 use Rattle.values.specs.Theorems.Bools.{and-parts}
-use Rattle.values.specs.Theorems.Forests.{Shallow, within-true, shallow-append, reach, Walk, Forest, forest-append, forest-raised, Good, good-nothing, good-single, good-contents, AllGood, good-items}
+use Rattle.values.specs.Theorems.Forests.{Shallow, within-true, shallow-append, reach, Walk, Forest, forest-append}
+use Rattle.values.specs.Theorems.Forests.{forest-raised, Good, good-nothing, good-single, good-contents, AllGood, good-items}
 use Rattle.runs.specs.declared.stop.Stop.{Stop}
 use Rattle.runs.specs.Results.{Result, gives}
 use Rattle.runs.specs.Programs.{Transformation, source, nothing, text, tag, slot, contents, within, andThen, beside, each, choose, bind}

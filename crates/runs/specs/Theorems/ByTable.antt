@@ -1,16 +1,15 @@
 -- Reading without the tree ends where the tree that is read ends, and faults where it faults.
 use mathlib.Core.Path.{_≡_, refl, ap, _∙_, fun-ext}
-use mathlib.Core.Bool.{Bool, true, false, cond}
+use mathlib.Core.Bool.{Bool, true, false}
 use mathlib.Core.List.{List}
 use Prim.Native.Nat.{ℕ, zero, suc}
-use lib.Dec.{eqb, leb}
+use lib.Dec.{leb}
 use lib.ListN.{getD, length}
-use Rattle.lines.specs.declared.table.Class.{Class}
-use Rattle.lines.specs.declared.table.Class.the-variants.{Transformation as Transforms, Test as Tests, Unknown}
-use Rattle.lines.specs.Entries.{Entry, classOf, rowOf}
+use Rattle.lines.specs.Entries.{Entry}
 use Rattle.runs.specs.Results.{Result, gives, stops, _>>=_, _>>_, ensure}
 use Rattle.runs.specs.Programs.{Transformation, Test}
-use Rattle.runs.specs.Reading.{Makes, leaf, one, two, choice, testLeaf, testOne, unknown, makes, Room, below, Read, read, Reader, transformationFrom, testFrom, noEntry, transformationAt, testAt, mostLevels, wholeRoom, readIn, readProgram, faultOf}
+use Rattle.runs.specs.Reading.{Makes, leaf, one, two, choice, testLeaf, testOne, unknown, makes, Room, below, Read, read, Reader}
+use Rattle.runs.specs.Reading.{transformationFrom, testFrom, noEntry, transformationAt, testAt, mostLevels, wholeRoom, readIn, readProgram, faultOf}
 use Rattle.runs.specs.Theorems.Congruence.{bind-same}
 use Rattle.runs.specs.Theorems.Table.{subEntries, classMade, reads-subEntries, reads-class}
 use Rattle.runs.specs.Ends.{stands, endOf, endBelow, endAt}

@@ -105,7 +105,9 @@ outcome c =
     (firstClash s (numberedFrom 0 (c .master)), map (λ l. l .mark) (linesIn (handedBack s (numberedFrom 0 (c .master)))))
 
 all-hold : map outcome cases ≡ map (λ c. (c .clash, c .marks)) cases
-unfolding outcome firstClash standing handedBack linesIn numberedFrom lineOf whole show putBack valueIn oneTop oneElement oneText bounded inTurn verdict mergedInto untouchedSlots gatheredSlots valueOf saysYes inside overItems elementOf bytesOf isFrom numberOf isTop noTop startsTop lowered raised toFirst items shallow withinBounds sort newText isUntouched isClash sameStanding _⋓_ fitted allOver merged gathered handsBack isElement sameText agree
+unfolding outcome firstClash standing handedBack linesIn numberedFrom lineOf whole show putBack valueIn oneTop oneElement oneText bounded inTurn verdict
+    mergedInto untouchedSlots gatheredSlots valueOf saysYes inside overItems elementOf bytesOf isFrom numberOf isTop noTop startsTop lowered raised toFirst items
+    shallow withinBounds sort newText isUntouched isClash sameStanding _⋓_ fitted allOver merged gathered handsBack isElement sameText agree
 all-hold = refl
 
 -- ## Programs read: soundness and the place of the first fault
@@ -177,5 +179,6 @@ shows =
     []
 
 all-shown : map (λ c. outcomeShown (c .0)) shows ≡ map (λ c. c .1) shows
-unfolding outcomeShown texts nested stopNumber stopEntry showing numberedFrom lineOf whole show valueIn oneTop oneElement oneText bounded inTurn verdict elementOf bytesOf numberOf isTop noTop startsTop lowered raised toFirst items shallow withinBounds isElement sameText agree
+unfolding outcomeShown texts nested stopNumber stopEntry showing numberedFrom lineOf whole show valueIn oneTop oneElement oneText bounded inTurn
+    verdict elementOf bytesOf numberOf isTop noTop startsTop lowered raised toFirst items shallow withinBounds isElement sameText agree
 all-shown = refl

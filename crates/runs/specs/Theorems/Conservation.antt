@@ -11,15 +11,19 @@ use Rattle.values.specs.Theorems.Bools.{or-unit, or-assoc}
 use Rattle.values.specs.Values.{Origin, master, program, Node, Value, Lookup, elementOf, bytesOf, isFrom, numberOf, among, made, lowered, raised, items, joined}
 use Rattle.values.specs.Standings.{Standing, untouched, locked, _⋓_, firstOf, restOf, allOver, merged, gathered}
 use Rattle.values.specs.Theorems.MergeLaws.{unit-left, unit-right, merge-idem, merge-comm, merge-assoc, merge-left-comm}
-use Rattle.values.specs.Theorems.Gathering.{only, only-untouched, gathered-untouched, gathered-merged, gathered-cut, gathered-take, gathered-fitted, gathered-lowered, gathered-raised}
+use Rattle.values.specs.Theorems.Gathering.{only, only-untouched, gathered-untouched, gathered-merged, gathered-cut}
+use Rattle.values.specs.Theorems.Gathering.{gathered-take, gathered-fitted, gathered-lowered, gathered-raised}
 use Rattle.values.specs.Theorems.Items.{joined-items}
 use Rattle.runs.specs.declared.stop.Stop.{Stop}
 use Rattle.runs.specs.Results.{Result, gives}
 use Rattle.runs.specs.Programs.{Transformation, source, nothing, text, tag, slot, contents, within, andThen, beside, each, choose, bind, Test, compares, tagged, isElement}
 use Rattle.runs.specs.Showing.{Slots, valueIn, Shown, Answer, oneTop, oneElement, oneText, inTurn, verdict, show, test}
-use Rattle.runs.specs.PuttingBack.{SlotStandings, firstSlot, restSlots, mergedInto, untouchedSlots, gatheredSlots, Back, back, valueOf, saysYes, inside, overItems, putBack, putBackTest}
-use Rattle.runs.specs.Theorems.Combinators.{Run, Asking, Putting, sourceRun, madeRun, slotRun, contentsRun, withinRun, thenRun, besideRun, eachRun, branchRun, chooseRun, bound, bindRun, comparesAsk, plainAsk}
-use Rattle.runs.specs.Theorems.Combinators.{sourcePut, madePut, slotPut, contentsPut, withinPut, thenPut, besidePut, itemsPut, eachPut, branchPut, choosePut, bindPut, comparesPut}
+use Rattle.runs.specs.PuttingBack.{SlotStandings, firstSlot, restSlots, mergedInto, untouchedSlots, gatheredSlots}
+use Rattle.runs.specs.PuttingBack.{Back, back, valueOf, saysYes, inside, overItems, putBack, putBackTest}
+use Rattle.runs.specs.Theorems.Combinators.{Run, Asking, Putting, sourceRun, madeRun, slotRun, contentsRun, withinRun, thenRun}
+use Rattle.runs.specs.Theorems.Combinators.{besideRun, eachRun, branchRun, chooseRun, bound, bindRun, comparesAsk, plainAsk}
+use Rattle.runs.specs.Theorems.Combinators.{sourcePut, madePut, slotPut, contentsPut, withinPut, thenPut, besidePut}
+use Rattle.runs.specs.Theorems.Combinators.{itemsPut, eachPut, branchPut, choosePut, bindPut, comparesPut}
 use Rattle.runs.specs.Theorems.Inversion.{on-gives, on-bind, on-element, on-text, on-bounded, on-turn, on-pair}
 
 -- ## Locks
@@ -148,7 +152,9 @@ module _ (n : ℕ) where
       on-bind (oneElement look e v) _ o h λ x q h₁.
       on-bind (run slots (x .inner)) _ o h₁ λ a r h₂.
       on-bounded (λ z. Kept n slots v (withinPut put slots v ss us) z ss us) e (x .top ∷ raised (a .value)) (a .compared) o h₂ λ _.
-      on-element look (λ w z. run slots (z .inner) ≡ gives a → Kept n slots w (withinPut put slots w ss us) (record { value = z .top ∷ raised (a .value); compared = a .compared }) ss us)
+      on-element look
+      (λ w z. run slots (z .inner) ≡ gives a
+      → Kept n slots w (withinPut put slots w ss us) (record { value = z .top ∷ raised (a .value); compared = a .compared }) ss us)
       (λ y w _ _ r.
       let A = put slots (lowered w) (restOf ss) us in
       let own = only (isFrom n (y .origin)) (firstOf ss) in

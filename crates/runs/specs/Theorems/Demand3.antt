@@ -15,7 +15,8 @@ use Rattle.values.specs.Values.{Origin, master, program, Value, Lookup, bytesOf
 use Rattle.values.specs.Standings.{Standing, untouched, isUntouched, isClash, _⋓_, gathered, brings, isEdit, handsBack}
 use Rattle.values.specs.Theorems.MergeLaws.{unit-left, unit-right}
 use Rattle.values.specs.Theorems.Copies.{isCopy, standingAt, Silent, Speaks, silent-or-speaks}
-use Rattle.values.specs.Theorems.Edits.{edit-speaks, FromLine, brings-fromLine, untouched-fromLine, isChanged, brings-unchanged, handsBack-head, handsBack-text, handsBack-lock, handsBack-formed}
+use Rattle.values.specs.Theorems.Edits.{edit-speaks, FromLine, brings-fromLine, untouched-fromLine, isChanged}
+use Rattle.values.specs.Theorems.Edits.{brings-unchanged, handsBack-head, handsBack-text, handsBack-lock, handsBack-formed}
 use Rattle.runs.specs.Results.{gives}
 use Rattle.runs.specs.Programs.{Transformation}
 use Rattle.runs.specs.Showing.{Shown}

@@ -17,7 +17,8 @@ use Rattle.values.specs.Theorems.Edits.{handsBack-lock}
 use Rattle.runs.specs.Results.{gives}
 use Rattle.runs.specs.Programs.{Transformation}
 use Rattle.runs.specs.Showing.{Shown}
-use Rattle.runs.specs.Grounds.{Numbered, numberedFrom, noLine, lineOf, lookupIn, Ground, showing, shownLine, view, brought, standingFor, firstClash, handedBack, linesIn, oneMaster}
+use Rattle.runs.specs.Grounds.{Numbered, numberedFrom, noLine, lineOf, lookupIn, Ground, showing, shownLine}
+use Rattle.runs.specs.Grounds.{view, brought, standingFor, firstClash, handedBack, linesIn, oneMaster}
 use Rattle.runs.specs.Theorems.Conservation.{lock}
 use Rattle.runs.specs.Theorems.Acceptance.{silent-lock}
 use Rattle.runs.specs.Theorems.Grounded.{no-clash-fine}
@@ -32,8 +33,10 @@ handedBack-same s b h (a ∷ ls) = rw (h (a .number), handsBack-lock (a .line) (
 pub unedited-same : (G : Ground) (X : Transformation) (o : Shown) → showing G X ≡ gives o → (ls : List Line) → ((n i : ℕ) → Edited G o ls n i → ⊥)
     → (firstClash (standingFor G X ls) (G .lines) ≡ Fine) × (handedBack (standingFor G X ls) (G .lines) ≡ G .lines)
 unfolding isClash sort
-unedited-same G X o shows ls none =
-    (no-clash-fine (standingFor G X ls) (G .lines) (λ n. ap isClash (locks n) ∙ plain (among n (o .compared))), handedBack-same (standingFor G X ls) (λ n. among n (o .compared)) locks (G .lines))
+unedited-same G X o shows ls none = (
+  no-clash-fine (standingFor G X ls) (G .lines) (λ n. ap isClash (locks n) ∙ plain (among n (o .compared))),
+  handedBack-same (standingFor G X ls) (λ n. among n (o .compared)) locks (G .lines),
+)
   where
     locks : (n : ℕ) → standingFor G X ls n ≡ lock n (o .compared)
     locks n =

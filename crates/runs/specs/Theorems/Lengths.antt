@@ -15,8 +15,10 @@ use Rattle.runs.specs.Results.{Result, gives}
 use Rattle.runs.specs.Programs.{Transformation, source, nothing, text, tag, slot, contents, within, andThen, beside, each, choose, bind, Test, compares, tagged, isElement}
 use Rattle.runs.specs.Showing.{Slots, valueIn, Shown, Answer, oneElement, oneText, inTurn, verdict, show, test}
 use Rattle.runs.specs.PuttingBack.{SlotStandings, firstSlot, restSlots, mergedInto, Back, back, valueOf, saysYes, inside, overItems, putBack, putBackTest}
-use Rattle.runs.specs.Theorems.Combinators.{Run, Asking, Putting, sourceRun, madeRun, slotRun, contentsRun, withinRun, thenRun, besideRun, eachRun, branchRun, chooseRun, bound, bindRun, comparesAsk}
-use Rattle.runs.specs.Theorems.Combinators.{sourcePut, madePut, slotPut, contentsPut, withinPut, thenPut, besidePut, itemsPut, eachPut, branchPut, choosePut, bindPut, comparesPut}
+use Rattle.runs.specs.Theorems.Combinators.{Run, Asking, Putting, sourceRun, madeRun, slotRun, contentsRun, withinRun}
+use Rattle.runs.specs.Theorems.Combinators.{thenRun, besideRun, eachRun, branchRun, chooseRun, bound, bindRun, comparesAsk}
+use Rattle.runs.specs.Theorems.Combinators.{sourcePut, madePut, slotPut, contentsPut, withinPut, thenPut, besidePut}
+use Rattle.runs.specs.Theorems.Combinators.{itemsPut, eachPut, branchPut, choosePut, bindPut, comparesPut}
 use Rattle.runs.specs.Theorems.Inversion.{on-gives, on-bind, on-element, on-text, on-bounded, on-turn, on-pair}
 
 -- ## Lists of standings
@@ -109,7 +111,8 @@ contents-fits : (look : Lookup) (e : ℕ) → Fitting (contentsRun look e) conte
 contents-fits look e slots v o h ss us =
     on-bind (oneElement look e v) _ o h λ x q h₁.
     on-gives (λ z. SizedFor slots v (contentsPut slots v ss us) z ss us) (record { value = x .inner; compared = [] }) o h₁
-    (on-element look (λ w z. SizedFor slots w (contentsPut slots w ss us) (record { value = z .inner; compared = [] }) ss us) (λ y w _ _ l f. (ap suc (l ∙ length-lowered w), f)) e v x q)
+    (on-element look (λ w z. SizedFor slots w (contentsPut slots w ss us) (record { value = z .inner; compared = [] }) ss us)
+    (λ y w _ _ l f. (ap suc (l ∙ length-lowered w), f)) e v x q)
 
 within-fits : (look : Lookup) (e : ℕ) (run : Run) (put : Putting) → Fitting run put → Fitting (withinRun look e run) (withinPut put)
 unfolding inside
@@ -117,7 +120,9 @@ within-fits look e run put fits slots v o h ss us =
     on-bind (oneElement look e v) _ o h λ x q h₁.
     on-bind (run slots (x .inner)) _ o h₁ λ a r h₂.
     on-bounded (λ z. SizedFor slots v (withinPut put slots v ss us) z ss us) e (x .top ∷ raised (a .value)) (a .compared) o h₂ λ _.
-    on-element look (λ w z. run slots (z .inner) ≡ gives a → SizedFor slots w (withinPut put slots w ss us) (record { value = z .top ∷ raised (a .value); compared = a .compared }) ss us)
+    on-element look
+    (λ w z. run slots (z .inner) ≡ gives a
+    → SizedFor slots w (withinPut put slots w ss us) (record { value = z .top ∷ raised (a .value); compared = a .compared }) ss us)
     (λ y w _ _ r l f.
     let s = fits slots (lowered w) a r (restOf ss) us (length-restOf ss (length (a .value)) (l ∙ ap suc (length-raised (a .value)))) f in
     (ap suc (s .0 ∙ length-lowered w), s .1)) e v x q r

@@ -9,7 +9,8 @@ use lib.ListN.{length, getD, List·getD-eq-default}
 use borrow.Author.Tests.{ltb-true, ltb-false}
 use Rattle.lines.specs.Entries.{Entry, classOf, rows, rowOf}
 use Rattle.runs.specs.Results.{gives}
-use Rattle.runs.specs.Programs.{equals, Transformation, source, nothing, text, tag, slot, contents, within, andThen, beside, each, choose, bind, Test, compares, tagged, isElement}
+use Rattle.runs.specs.Programs.{equals, Transformation, source, nothing, text, tag, slot, contents, within}
+use Rattle.runs.specs.Programs.{andThen, beside, each, choose, bind, Test, compares, tagged, isElement}
 use Rattle.runs.specs.Reading.{Room, below, noEntry}
 use Rattle.runs.specs.Theorems.Inversion.{no-gives, gives-inj, on-bind, on-ensure}
 use Rattle.runs.specs.Ends.{stands, endOf, endBelow, endAt}

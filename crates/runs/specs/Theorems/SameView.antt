@@ -1,4 +1,5 @@
--- A view beside the fresh one, in which reply 9 finds no difference: each line of a node has the node's kind and, unless it is marked 01, its bytes; and mark 01 stands on no element.
+-- A view beside the fresh one, in which reply 9 finds no difference: each line of a node has the
+-- node's kind and, unless it is marked 01, its bytes; and mark 01 stands on no element.
 use mathlib.Core.Path.{_≡_, refl, sym, ap, _∙_}
 use mathlib.Core.Bool.{Bool, true, false, cond, _&&_, _||_}
 use mathlib.Core.List.{List, [], _∷_}

@@ -6,13 +6,15 @@ use Prim.Native.Nat.{ℕ, zero, suc, _+_, _≤_, max}
 use native.Mathlib.Omega.{arith}
 use lib.Dec.{leb, eqb}
 use lib.ListN.{getD}
-use Rattle.lines.specs.Entries.{Entry, slotOf, textOf}
+use Rattle.lines.specs.Entries.{Entry, slotOf}
 use Rattle.values.specs.Values.{among}
 use Rattle.runs.specs.Results.{gives}
-use Rattle.runs.specs.Programs.{equals, Transformation, source, nothing, text, tag, slot, contents, within, andThen, beside, each, choose, bind, Test, compares, tagged, isElement}
-use Rattle.runs.specs.Reading.{Makes, leaf, one, two, choice, testLeaf, testOne, unknown, Row, operations, makes, Room, insideEach, insideBind, below, Read, read, Reader, transformationFrom, testFrom, noEntry, transformationAt, testAt}
+use Rattle.runs.specs.Programs.{equals, Transformation, source, nothing, text, tag, slot, contents, within}
+use Rattle.runs.specs.Programs.{andThen, beside, each, choose, bind, Test, compares, tagged, isElement}
+use Rattle.runs.specs.Reading.{Makes, leaf, one, two, choice, testLeaf, testOne, unknown, Row, operations, makes, Room, insideEach}
+use Rattle.runs.specs.Reading.{insideBind, below, Read, read, Reader, transformationFrom, testFrom, noEntry, transformationAt, testAt}
 use Rattle.runs.specs.Theorems.Inversion.{no-gives, gives-inj, on-gives, on-bind, on-ensure}
-use Rattle.runs.specs.Trees.{height, testHeight, Sound, SoundTest, entryAt, Head, Stands, StandsTest, Placed, PlacedTest}
+use Rattle.runs.specs.Trees.{height, testHeight, Sound, Stands, Placed, PlacedTest}
 
 -- ## What is read is such a tree
 
@@ -86,7 +88,11 @@ module _ (entries : List Entry) (p k : ℕ) (room inner : Room) where
       (λ o h X q x. let a = x .high in
       record { stands = ((refl, o), x .stands); high = omega arith; sound = (each-room o h .0, rw (← (each-room o h .1)) (x .sound)) }) ▹  -- 0A
       (λ o h P X Y l m q t x y. let a = t .high in let b = x .high in let c = y .high in
-      record { stands = ((refl, o), (l, m, t .stands, x .stands, y .stands)); high = omega arith; sound = rw (← (same-room 0x0B o refl refl refl h)) (t .sound, x .sound, y .sound) }) ▹  -- 0B
+      record {
+        stands = ((refl, o), (l, m, t .stands, x .stands, y .stands));
+        high = omega arith;
+        sound = rw (← (same-room 0x0B o refl refl refl h)) (t .sound, x .sound, y .sound);
+      }) ▹  -- 0B
       (λ o h X q x. let a = x .high in
       record { stands = ((refl, o), refl, x .stands); high = omega arith; sound = (bind-room o h .0, rw (← (bind-room o h .1)) (x .sound)) }) ▹  -- 0C
       (λ o h. tt) ▹  -- 0D
@@ -221,7 +227,13 @@ module _ (entries : List Entry) where
         )
     placed-read (bind e s X) = with-level (bind e s X) (omega arith) λ k room p q d.
         let l = d .high in
-        rw (d .stands .0 .1, d .stands .0 .0, ← (d .stands .1), d .sound .0, placed-read X k (insideBind s room) (suc p) q (record { stands = d .stands .2; high = omega arith; sound = d .sound .1 }))
+        rw (
+          d .stands .0 .1,
+          d .stands .0 .0,
+          ← (d .stands .1),
+          d .sound .0,
+          placed-read X k (insideBind s room) (suc p) q (record { stands = d .stands .2; high = omega arith; sound = d .sound .1 }),
+        )
 
     pub test-placed-read : (P : Test) (k : ℕ) → TestIsRead P k
     test-placed-read (compares e equals X) = with-test-level (compares e equals X) (omega arith) λ k room p q d.

@@ -70,5 +70,7 @@ reads-class e p =
     ∙ go (ltb (e .operation) rowCount) refl
   where
     go : (b : Bool) → ltb (e .operation) rowCount ≡ b → classOf (getD (upFrom 0 rowCount) (e .operation) rowCount) ≡ classOf (e .operation)
-    go true h = let l = ltb-true (e .operation) rowCount h in ap classOf (at-upFrom 0 rowCount (e .operation) rowCount l ∙ (let z : 0 + e .operation ≡ e .operation = omega arith in z))
+    go true h =
+        let l = ltb-true (e .operation) rowCount h in
+        ap classOf (at-upFrom 0 rowCount (e .operation) rowCount l ∙ (let z : 0 + e .operation ≡ e .operation = omega arith in z))
     go false h = let l = ltb-false (e .operation) rowCount h in ap classOf (past-upFrom 0 rowCount (e .operation) rowCount l) ∙ sym (past-class (e .operation) l)

@@ -9,7 +9,8 @@ use lib.ListN.{getD, length, List·getD-eq-default}
 use borrow.Author.Tests.{ltb-true, ltb-false, leb-true, le-leb}
 use Rattle.lines.specs.Entries.{Entry}
 use Rattle.runs.specs.Results.{gives}
-use Rattle.runs.specs.Programs.{equals, Transformation, source, nothing, text, tag, slot, contents, within, andThen, beside, each, choose, bind, Test, compares, tagged, isElement}
+use Rattle.runs.specs.Programs.{equals, Transformation, source, nothing, text, tag, slot, contents, within}
+use Rattle.runs.specs.Programs.{andThen, beside, each, choose, bind, Test, compares, tagged, isElement}
 use Rattle.runs.specs.Reading.{Room, wholeRoom, mostLevels, insideEach, insideBind, noEntry, transformationAt, readIn, readProgram}
 use Rattle.runs.specs.Theorems.Inversion.{on-gives, on-bind, on-ensure}
 use Rattle.runs.specs.Trees.{height, Sound, SoundTest, Stands, StandsTest, Placed}
@@ -124,7 +125,8 @@ mutual
       let y : deepest X .0 ≤ pred (room .eaches) = x .0 in
       (omega arith, x .1)
   sound-few (choose e P X Y) = λ room s.
-      few-most (deepestTest P) (most (deepest X) (deepest Y)) room (test-few P room (s .0)) (few-most (deepest X) (deepest Y) room (sound-few X room (s .1)) (sound-few Y room (s .2)))
+      few-most (deepestTest P) (most (deepest X) (deepest Y)) room (test-few P room (s .0))
+      (few-most (deepest X) (deepest Y) room (sound-few X room (s .1)) (sound-few Y room (s .2)))
   sound-few (bind e k X) = λ room s.
       let l = leb-true 1 (room .binds) (s .0) in
       let x = sound-few X (insideBind k room) (s .1) in

@@ -101,7 +101,9 @@ module _ (w₀ : List ℕ) (to : ℕ) (new : List ℕ) (i : ℕ) (h : i ≤ leng
   pub put-reads : (k : ℕ) → (k < to) ⊎ (to + i ≤ k) → getD (putAt w₀ to (take i new)) k 0 ≡ getD w₀ k 0
   put-reads k (inl below) =
       let low : length (take to w₀) ≡ to = length-take-le to w₀ (omega arith) in
-      rw so-far (List·getD-append (take to w₀ ++ take i new) _ 0 k (omega (arith, head)) ∙ (List·getD-append (take to w₀) (take i new) 0 k (omega arith) ∙ getD-take to w₀ k 0 below))
+      rw so-far
+      (List·getD-append (take to w₀ ++ take i new) _ 0 k (omega (arith, head))
+      ∙ (List·getD-append (take to w₀) (take i new) 0 k (omega arith) ∙ getD-take to w₀ k 0 below))
   put-reads k (inr above) =
       let z : k ≡ length (take to w₀ ++ take i new) + (k - (to + i)) = omega (arith, head) in
       rw so-far

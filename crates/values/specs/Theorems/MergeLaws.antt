@@ -134,7 +134,8 @@ merge-assoc s t u =
     by-untouched (λ z. s ⋓ t ⋓ z ≡ s ⋓ (t ⋓ z)) u (rw (unit-right (s ⋓ t), unit-right t)) λ r.
     by-same (λ z. isUntouched z ≡ false → s ⋓ z ⋓ u ≡ s ⋓ (z ⋓ u)) s t
     (λ _. rw (merge-idem s) (by-same (λ z. s ⋓ z ≡ s ⋓ (s ⋓ z)) s u (rw (merge-idem s) (sym (merge-idem s))) λ n. rw (differ s u p r n) (sym (clash-right s))))
-    (λ n q′. rw (differ s t p q n) (clash-left u ∙ sym (by-same (λ z. s ⋓ (t ⋓ z) ≡ clash) t u (rw (merge-idem t) (differ s t p q n)) λ m. rw (differ t u q r m) (clash-right s)))) q
+    (λ n q′. rw (differ s t p q n)
+    (clash-left u ∙ sym (by-same (λ z. s ⋓ (t ⋓ z) ≡ clash) t u (rw (merge-idem t) (differ s t p q n)) λ m. rw (differ t u q r m) (clash-right s)))) q
 
 pub merge-left-comm : (s t u : Standing) → s ⋓ (t ⋓ u) ≡ t ⋓ (s ⋓ u)
 merge-left-comm s t u = sym (merge-assoc s t u) ∙ ap (λ (z : Standing). z ⋓ u) (merge-comm s t) ∙ merge-assoc t s u

@@ -91,7 +91,9 @@ module _ (made : Made) where
   pub raised-words : (l : List ℕ) → shallow (map (nodeOf made) l) ≡ true → map (nodeOf made) (map raisedWord l) ≡ raised (map (nodeOf made) l)
   unfolding raised shallow
   raised-words [] e = refl
-  raised-words (x ∷ l) e = ap₂ (λ (a : Node) (r : Value). a ∷ r) (raised-node x (word-room x (leb-true _ 9 (and-left (leb (nodeOf made x .depth) 9) _ e)))) (raised-words l (and-right (leb (nodeOf made x .depth) 9) _ e))
+  raised-words (x ∷ l) e =
+      ap₂ (λ (a : Node) (r : Value). a ∷ r) (raised-node x (word-room x (leb-true _ 9 (and-left (leb (nodeOf made x .depth) 9) _ e))))
+      (raised-words l (and-right (leb (nodeOf made x .depth) 9) _ e))
 
 -- ## Standings
 
@@ -104,7 +106,8 @@ module _ (texts : ℕ → List ℕ) where
   unfolding standingsAt
   standings-join w start a b = rw (part-join w start a b) (map-append (standingOf texts) (part w start a) (part w (start + a) b))
 
-  pub standings-cons : (w : List ℕ) (start len : ℕ) → start + len < length w → standingsAt texts w start (len + 1) ≡ standingOf texts (getD w start 0) ∷ standingsAt texts w (start + 1) len
+  pub standings-cons : (w : List ℕ) (start len : ℕ) → start + len < length w
+      → standingsAt texts w start (len + 1) ≡ standingOf texts (getD w start 0) ∷ standingsAt texts w (start + 1) len
   unfolding standingsAt
   standings-cons w start len h = rw (part-cons w start len h)
 
@@ -146,7 +149,9 @@ module _ (texts : ℕ → List ℕ) where
   unfolding sameStanding
   words-apart a b p q ne = go (ltb a 4) (ltb b 4) refl refl
     where
-      go : (s t : Bool) → ltb a 4 ≡ s → ltb b 4 ≡ t → (eqb (sort (standingOf texts a)) (sort (standingOf texts b)) && sameText (newText (standingOf texts a)) (newText (standingOf texts b))) ≡ false
+      go : (s t : Bool) → ltb a 4 ≡ s → ltb b 4 ≡ t
+          → (eqb (sort (standingOf texts a)) (sort (standingOf texts b))
+          && sameText (newText (standingOf texts a)) (newText (standingOf texts b))) ≡ false
       go true true e f = rw (sort-word a, sort-word b, e, f, ne-eqb a b ne)
       go true false e f = let h = ltb-true a 4 e in rw (sort-word a, sort-word b, e, f, ne-eqb a 4 (λ z. omega arith))
       go false true e f = let h = ltb-true b 4 f in rw (sort-word a, sort-word b, e, f, ne-eqb 4 b (λ z. omega arith))

@@ -7,18 +7,9 @@ use Rattle.calls.specs.Judging.{masterRule}
 use Rattle.calls.proofs.files.master_fault.Statement.{statement}
 use Rattle.calls.proofs.files.master_fault.Tie as tie
 
-bounds-requires : tie.Need-bounds-requires
-bounds-requires c κs = search needs
-
 returns : tie.Need-returns
 unfolding masterRule
 returns c = rw (not-true (c .before .before .before .before .args .putting) (c .if1 .taken)) (c .before .bounds .ensures)
-
-marks-requires : tie.Need-marks-requires
-marks-requires c κs = search needs
-
-earlier-of-requires : tie.Need-earlier-of-requires
-earlier-of-requires c κs = search needs
 
 returns-2 : tie.Need-returns-2
 unfolding masterRule
@@ -28,4 +19,4 @@ returns-2 c =
 
 pub master-fault-spec : {M : Type 1} → statement M
 master-fault-spec =
-    tie.close (tie.spec bounds-requires returns marks-requires earlier-of-requires returns-2)
+    tie.close (tie.spec (λ c κs. search needs) returns (λ c κs. search needs) (λ c κs. search needs) returns-2)

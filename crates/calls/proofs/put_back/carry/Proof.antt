@@ -1,98 +1,105 @@
+-- The view's standings come to place 128, the master's to 256, and their first clash decides.
 use native.Mathlib.Omega.{arith}
-use mathlib.Core.Path.{refl, sym, _∙_}
+use mathlib.Core.Path.{_≡_, refl, sym}
+use mathlib.Core.List.{List}
 use lib.ListN.{length, length-map, replicate}
 use Prim.Native.Nat.{ℕ}
-use Rattle.lines.specs.Nodes.{nodeAt}
-use Rattle.calls.proofs.Carrying.{put-asks, put-is, found-is, room-for-standings, clash-refuses, handed-settles, handed-short, handing-room, clash-place}
 use borrow.Author.Needs.{needs}
+use Rattle.lines.specs.Nodes.{nodeAt}
+use Rattle.lines.specs.Nodes.{Node as Line}
+use Rattle.lines.specs.Entries.{Entry}
+use Rattle.runs.specs.Runs.{entriesOf, linesOf}
+use Rattle.calls.proofs.Carrying.{Handed, Stood, put-asks, standings-put}
 use Rattle.calls.proofs.put_back.carry.Statement.{statement}
 use Rattle.calls.proofs.put_back.carry.Tie as tie
-use Rattle.calls.proofs.put_back.carry.Reads as reads
-use Rattle.calls.proofs.put_back.carry.Lts as lts
-use Rattle.calls.proofs.lines_out.write_master.Reads as write-master-reads
-use Rattle.calls.proofs.put_back.first_clash.Reads as first-clash-reads
-use Rattle.calls.proofs.reply.done.Reads as done-reads
-use Rattle.calls.proofs.reply.refuse.Reads as refuse-reads
-use Rattle.calls.proofs.view_in.bring_view.Reads as bring-view-reads
-use Rattle.runs.proofs.put.put.Reads as put-reads
-use Rattle.runs.proofs.slots.no_slots.Reads as no-slots-reads
 
--- src/put_back.rt:67:5
+abbrev E : tie.Start → List Entry
+E s = entriesOf (s .args .program .now) (s .args .entries .now)
+
+abbrev L : tie.Start → List Line
+L s = linesOf (s .args .master .now) (s .args .nodes .now)
+
+abbrev es : tie.Start → List Line
+es s = linesOf (s .args .view .now) (s .args .lines .now)
+
+-- the code counts starts
+many-nodes : (s : tie.Start) → length (s .args .nodes .now) ≡ length (L s)
+many-nodes s = sym (length-map (s .args .nodes .now) (nodeAt (s .args .master .now)))
+
+many-lines : (s : tie.Start) → length (s .args .lines .now) ≡ length (es s)
+many-lines s = sym (length-map (s .args .lines .now) (nodeAt (s .args .view .now)))
+
+-- from the standings put back to the view's, and to the entry
+abbrev brought : tie.After-put → tie.After-bring-view
+brought p = p .before .before .before .before .before .before
+
+abbrev entered : tie.After-bring-view → tie.Start
+entered p = p .before .before .before .before .before .before .before .before .before .before .before
+
+abbrev work : tie.After-put → List ℕ
+work p = p .put .last .1 .1 .1 .1 .1 .0
+
+stood : (p : tie.After-put) → let s = entered (brought p) in
+    Stood (E s) (L s) (es s) (work p) (s .args .out .now)
+stood p =
+    let b = brought p in
+    let s = entered b in
+    let put = rw (p .before .before .before .root .ensures) at (p .put .ensures) in
+    standings-put (s .pre) (b .bring-view .ensures) _ _ (many-nodes s) (many-lines s) _ refl _ _ _ put (p .put .kept .1 .1 .1 .1 .1 .0)
+
+handed : (p : tie.After-first-clash) → let q = p .before .before .before .before .before in let s = entered (brought q) in
+    Handed (E s) (L s) (es s) (work q) (s .args .out .now) (p .first-clash .result)
+handed p =
+    let q = p .before .before .before .before .before in
+    stood q .searched _ (many-nodes (entered (brought q))) _ (p .first-clash .ensures)
+
 bring-view-requires : tie.Need-bring-view-requires
-bring-view-requires c κs = let k = (c .before .before .before .before .before .before .before .before .before .before .pre) in let f = k .few in let r = k .work-room in let e = length-map (c .before .before .before .before .before .before .before .before .before .before .args .lines .now) (nodeAt (c .before .before .before .before .before .before .before .before .before .before .args .view .now)) in (omega arith, omega arith)
+bring-view-requires c κs =
+    let s = c .before .before .before .before .before .before .before .before .before .before in
+    let few = s .pre .few in
+    let room = s .pre .work-room in
+    let many = many-lines s in
+    (omega arith, omega arith)
 
--- src/put_back.rt:76:9
-slice-aggregate-put : tie.Need-slice-aggregate-put
-slice-aggregate-put c = search needs
-
--- src/put_back.rt:77:9
-no-slots-requires : tie.Need-no-slots-requires
-no-slots-requires c κs = search needs
-
--- src/put_back.rt:69:5
 put-requires : tie.Need-put-requires
-put-requires c κs = let a = put-asks (c .before .before .before .before .before .before .before .before .before .before .before .before .before .before .before .before .pre) (c .before .before .before .before .before .bring-view .ensures) (length (c .before .before .before .before .before .before .before .before .before .before .before .before .before .before .before .before .args .nodes .now)) (length (c .before .before .before .before .before .before .before .before .before .before .before .before .before .before .before .before .args .lines .now)) (sym (length-map (c .before .before .before .before .before .before .before .before .before .before .before .before .before .before .before .before .args .nodes .now) (nodeAt (c .before .before .before .before .before .before .before .before .before .before .before .before .before .before .before .before .args .master .now)))) (sym (length-map (c .before .before .before .before .before .before .before .before .before .before .before .before .before .before .before .before .args .lines .now) (nodeAt (c .before .before .before .before .before .before .before .before .before .before .before .before .before .before .before .before .args .view .now)))) _ (c .no-slots .ensures) (replicate {A = ℕ} 512 0) refl in (a .0, (a .1, a .2))
+put-requires c κs =
+    let b = c .before .before .before .before .before in
+    let s = entered b in
+    let asks = put-asks (s .pre) (b .bring-view .ensures) _ _ (many-nodes s) (many-lines s) _ refl (replicate {A = ℕ} 512 0) refl in
+    rw (c .before .before .root .ensures) (asks .0, (asks .1, asks .2))
 
--- src/put_back.rt:86:9
 first-clash-requires : tie.Need-first-clash-requires
-first-clash-requires c κs = let room = room-for-standings (c .before .before .before .before .before .before .before .before .before .before .before .before .before .before .before .before .before .before .before .before .before .pre) (c .before .before .before .before .before .before .before .before .before .before .bring-view .ensures) (put-is (c .before .before .before .before .before .before .before .before .before .before .before .before .before .before .before .before .before .before .before .before .before .pre) (c .before .before .before .before .before .before .before .before .before .before .bring-view .ensures) _ _ (sym (length-map (c .before .before .before .before .before .before .before .before .before .before .before .before .before .before .before .before .before .before .before .before .before .args .nodes .now) (nodeAt (c .before .before .before .before .before .before .before .before .before .before .before .before .before .before .before .before .before .before .before .before .before .args .master .now)))) (sym (length-map (c .before .before .before .before .before .before .before .before .before .before .before .before .before .before .before .before .before .before .before .before .before .args .lines .now) (nodeAt (c .before .before .before .before .before .before .before .before .before .before .before .before .before .before .before .before .before .before .before .before .before .args .view .now)))) _ (c .before .before .before .before .before .no-slots .ensures) _ _ _ (c .before .before .before .before .put .ensures)) (c .before .before .before .before .put .kept .1 .1 .1 .1 .1 .0) in let e = length-map (c .before .before .before .before .before .before .before .before .before .before .before .before .before .before .before .before .before .before .before .before .before .args .nodes .now) (nodeAt (c .before .before .before .before .before .before .before .before .before .before .before .before .before .before .before .before .before .before .before .before .before .args .master .now)) in omega arith
+first-clash-requires c κs =
+    let p = c .before .before .before .before in
+    let inside = stood p .inside in
+    let many = many-nodes (entered (brought p)) in
+    omega arith
 
--- src/put_back.rt:88:24
-enum-known-clash : tie.Need-enum-known-clash
-enum-known-clash c = search needs
-
--- src/put_back.rt:88:30
 refuse-requires : tie.Need-refuse-requires
-refuse-requires c κs = let place = clash-place (c .before .before .before .before .before .before .before .before .before .before .before .before .before .before .before .before .before .before .before .before .before .before .before .before .before .pre) (c .before .before .before .before .before .before .before .before .before .before .before .before .before .before .bring-view .ensures) (put-is (c .before .before .before .before .before .before .before .before .before .before .before .before .before .before .before .before .before .before .before .before .before .before .before .before .before .pre) (c .before .before .before .before .before .before .before .before .before .before .before .before .before .before .bring-view .ensures) _ _ (sym (length-map (c .before .before .before .before .before .before .before .before .before .before .before .before .before .before .before .before .before .before .before .before .before .before .before .before .before .args .nodes .now) (nodeAt (c .before .before .before .before .before .before .before .before .before .before .before .before .before .before .before .before .before .before .before .before .before .before .before .before .before .args .master .now)))) (sym (length-map (c .before .before .before .before .before .before .before .before .before .before .before .before .before .before .before .before .before .before .before .before .before .before .before .before .before .args .lines .now) (nodeAt (c .before .before .before .before .before .before .before .before .before .before .before .before .before .before .before .before .before .before .before .before .before .before .before .before .before .args .view .now)))) _ (c .before .before .before .before .before .before .before .before .before .no-slots .ensures) _ _ _ (c .before .before .before .before .before .before .before .before .put .ensures)) (c .before .before .before .before .before .before .before .before .put .kept .1 .1 .1 .1 .1 .0) _ (found-is (c .before .before .before .before .before .before .before .before .before .before .before .before .before .before .before .before .before .before .before .before .before .before .before .before .before .pre) (c .before .before .before .before .before .before .before .before .before .before .before .before .before .before .bring-view .ensures) (put-is (c .before .before .before .before .before .before .before .before .before .before .before .before .before .before .before .before .before .before .before .before .before .before .before .before .before .pre) (c .before .before .before .before .before .before .before .before .before .before .before .before .before .before .bring-view .ensures) _ _ (sym (length-map (c .before .before .before .before .before .before .before .before .before .before .before .before .before .before .before .before .before .before .before .before .before .before .before .before .before .args .nodes .now) (nodeAt (c .before .before .before .before .before .before .before .before .before .before .before .before .before .before .before .before .before .before .before .before .before .before .before .before .before .args .master .now)))) (sym (length-map (c .before .before .before .before .before .before .before .before .before .before .before .before .before .before .before .before .before .before .before .before .before .before .before .before .before .args .lines .now) (nodeAt (c .before .before .before .before .before .before .before .before .before .before .before .before .before .before .before .before .before .before .before .before .before .before .before .before .before .args .view .now)))) _ (c .before .before .before .before .before .before .before .before .before .no-slots .ensures) _ _ _ (c .before .before .before .before .before .before .before .before .put .ensures)) (c .before .before .before .before .before .before .before .before .put .kept .1 .1 .1 .1 .1 .0) _ (sym (length-map (c .before .before .before .before .before .before .before .before .before .before .before .before .before .before .before .before .before .before .before .before .before .before .before .before .before .args .nodes .now) (nodeAt (c .before .before .before .before .before .before .before .before .before .before .before .before .before .before .before .before .before .before .before .before .before .before .before .before .before .args .master .now)))) _ (c .before .before .before .first-clash .ensures) ∙ c .before .clash .given .1) in omega arith
+refuse-requires c κs = let below = handed (c .before .before .before) .below _ (c .before .clash .given .1) in omega arith
 
--- src/put_back.rt:89:72
-enum-told : tie.Need-enum-told
-enum-told c = search needs
-
--- src/put_back.rt:89:31
 write-master-requires : tie.Need-write-master-requires
-write-master-requires c κs = handing-room (c .before .before .before .before .before .before .before .before .before .before .before .before .before .before .before .before .before .before .before .before .before .before .before .before .before .before .pre) (c .before .before .before .before .before .before .before .before .before .before .before .before .before .before .before .bring-view .ensures) (put-is (c .before .before .before .before .before .before .before .before .before .before .before .before .before .before .before .before .before .before .before .before .before .before .before .before .before .before .pre) (c .before .before .before .before .before .before .before .before .before .before .before .before .before .before .before .bring-view .ensures) _ _ (sym (length-map (c .before .before .before .before .before .before .before .before .before .before .before .before .before .before .before .before .before .before .before .before .before .before .before .before .before .before .args .nodes .now) (nodeAt (c .before .before .before .before .before .before .before .before .before .before .before .before .before .before .before .before .before .before .before .before .before .before .before .before .before .before .args .master .now)))) (sym (length-map (c .before .before .before .before .before .before .before .before .before .before .before .before .before .before .before .before .before .before .before .before .before .before .before .before .before .before .args .lines .now) (nodeAt (c .before .before .before .before .before .before .before .before .before .before .before .before .before .before .before .before .before .before .before .before .before .before .before .before .before .before .args .view .now)))) _ (c .before .before .before .before .before .before .before .before .before .before .no-slots .ensures) _ _ _ (c .before .before .before .before .before .before .before .before .before .put .ensures)) (c .before .before .before .before .before .before .before .before .before .put .kept .1 .1 .1 .1 .1 .0) (found-is (c .before .before .before .before .before .before .before .before .before .before .before .before .before .before .before .before .before .before .before .before .before .before .before .before .before .before .pre) (c .before .before .before .before .before .before .before .before .before .before .before .before .before .before .before .bring-view .ensures) (put-is (c .before .before .before .before .before .before .before .before .before .before .before .before .before .before .before .before .before .before .before .before .before .before .before .before .before .before .pre) (c .before .before .before .before .before .before .before .before .before .before .before .before .before .before .before .bring-view .ensures) _ _ (sym (length-map (c .before .before .before .before .before .before .before .before .before .before .before .before .before .before .before .before .before .before .before .before .before .before .before .before .before .before .args .nodes .now) (nodeAt (c .before .before .before .before .before .before .before .before .before .before .before .before .before .before .before .before .before .before .before .before .before .before .before .before .before .before .args .master .now)))) (sym (length-map (c .before .before .before .before .before .before .before .before .before .before .before .before .before .before .before .before .before .before .before .before .before .before .before .before .before .before .args .lines .now) (nodeAt (c .before .before .before .before .before .before .before .before .before .before .before .before .before .before .before .before .before .before .before .before .before .before .before .before .before .before .args .view .now)))) _ (c .before .before .before .before .before .before .before .before .before .before .no-slots .ensures) _ _ _ (c .before .before .before .before .before .before .before .before .before .put .ensures)) (c .before .before .before .before .before .before .before .before .before .put .kept .1 .1 .1 .1 .1 .0) _ (sym (length-map (c .before .before .before .before .before .before .before .before .before .before .before .before .before .before .before .before .before .before .before .before .before .before .before .before .before .before .args .nodes .now) (nodeAt (c .before .before .before .before .before .before .before .before .before .before .before .before .before .before .before .before .before .before .before .before .before .before .before .before .before .before .args .master .now)))) _ (c .before .before .before .before .first-clash .ensures) ∙ c .before .before .enum-told .given .1)
+write-master-requires c κs = handed (c .before .before .before .before) .room (c .before .before .enum-told .given .1)
 
--- src/put_back.rt:89:26
 done-requires : tie.Need-done-requires
-done-requires c κs = let short = handed-short (c .before .before .before .before .before .before .before .before .before .before .before .before .before .before .before .before .before .before .before .before .before .before .before .before .before .before .before .before .before .pre) (c .before .before .before .before .before .before .before .before .before .before .before .before .before .before .before .before .before .before .bring-view .ensures) (put-is (c .before .before .before .before .before .before .before .before .before .before .before .before .before .before .before .before .before .before .before .before .before .before .before .before .before .before .before .before .before .pre) (c .before .before .before .before .before .before .before .before .before .before .before .before .before .before .before .before .before .before .bring-view .ensures) _ _ (sym (length-map (c .before .before .before .before .before .before .before .before .before .before .before .before .before .before .before .before .before .before .before .before .before .before .before .before .before .before .before .before .before .args .nodes .now) (nodeAt (c .before .before .before .before .before .before .before .before .before .before .before .before .before .before .before .before .before .before .before .before .before .before .before .before .before .before .before .before .before .args .master .now)))) (sym (length-map (c .before .before .before .before .before .before .before .before .before .before .before .before .before .before .before .before .before .before .before .before .before .before .before .before .before .before .before .before .before .args .lines .now) (nodeAt (c .before .before .before .before .before .before .before .before .before .before .before .before .before .before .before .before .before .before .before .before .before .before .before .before .before .before .before .before .before .args .view .now)))) _ (c .before .before .before .before .before .before .before .before .before .before .before .before .before .no-slots .ensures) _ _ _ (c .before .before .before .before .before .before .before .before .before .before .before .before .put .ensures)) (c .before .before .before .before .before .before .before .before .before .before .before .before .put .kept .1 .1 .1 .1 .1 .0) (found-is (c .before .before .before .before .before .before .before .before .before .before .before .before .before .before .before .before .before .before .before .before .before .before .before .before .before .before .before .before .before .pre) (c .before .before .before .before .before .before .before .before .before .before .before .before .before .before .before .before .before .before .bring-view .ensures) (put-is (c .before .before .before .before .before .before .before .before .before .before .before .before .before .before .before .before .before .before .before .before .before .before .before .before .before .before .before .before .before .pre) (c .before .before .before .before .before .before .before .before .before .before .before .before .before .before .before .before .before .before .bring-view .ensures) _ _ (sym (length-map (c .before .before .before .before .before .before .before .before .before .before .before .before .before .before .before .before .before .before .before .before .before .before .before .before .before .before .before .before .before .args .nodes .now) (nodeAt (c .before .before .before .before .before .before .before .before .before .before .before .before .before .before .before .before .before .before .before .before .before .before .before .before .before .before .before .before .before .args .master .now)))) (sym (length-map (c .before .before .before .before .before .before .before .before .before .before .before .before .before .before .before .before .before .before .before .before .before .before .before .before .before .before .before .before .before .args .lines .now) (nodeAt (c .before .before .before .before .before .before .before .before .before .before .before .before .before .before .before .before .before .before .before .before .before .before .before .before .before .before .before .before .before .args .view .now)))) _ (c .before .before .before .before .before .before .before .before .before .before .before .before .before .no-slots .ensures) _ _ _ (c .before .before .before .before .before .before .before .before .before .before .before .before .put .ensures)) (c .before .before .before .before .before .before .before .before .before .before .before .before .put .kept .1 .1 .1 .1 .1 .0) _ (sym (length-map (c .before .before .before .before .before .before .before .before .before .before .before .before .before .before .before .before .before .before .before .before .before .before .before .before .before .before .before .before .before .args .nodes .now) (nodeAt (c .before .before .before .before .before .before .before .before .before .before .before .before .before .before .before .before .before .before .before .before .before .before .before .before .before .before .before .before .before .args .master .now)))) _ (c .before .before .before .before .before .before .before .first-clash .ensures) ∙ c .before .before .before .before .before .enum-told .given .1) in let end = c .before .before .write-master .ensures .behind in omega arith
+done-requires c κs =
+    let w = c .before .before in
+    let t = w .before .before .before in
+    let short = handed (t .before .before) .short (t .enum-told .given .1) in
+    let end = w .write-master .ensures .behind in
+    omega arith
 
--- src/put_back.rt:53:1
-same-length : tie.Need-same-length
-same-length c = search needs
-
--- src/put_back.rt:53:1
 returns : tie.Need-returns
-returns c = λ X read. clash-refuses (c .before .before .before .before .before .before .before .before .before .before .before .before .before .before .before .before .before .before .before .before .before .before .before .before .before .before .pre) (c .before .before .before .before .before .before .before .before .before .before .before .before .before .before .before .bring-view .ensures) (put-is (c .before .before .before .before .before .before .before .before .before .before .before .before .before .before .before .before .before .before .before .before .before .before .before .before .before .before .pre) (c .before .before .before .before .before .before .before .before .before .before .before .before .before .before .before .bring-view .ensures) _ _ (sym (length-map (c .before .before .before .before .before .before .before .before .before .before .before .before .before .before .before .before .before .before .before .before .before .before .before .before .before .before .args .nodes .now) (nodeAt (c .before .before .before .before .before .before .before .before .before .before .before .before .before .before .before .before .before .before .before .before .before .before .before .before .before .before .args .master .now)))) (sym (length-map (c .before .before .before .before .before .before .before .before .before .before .before .before .before .before .before .before .before .before .before .before .before .before .before .before .before .before .args .lines .now) (nodeAt (c .before .before .before .before .before .before .before .before .before .before .before .before .before .before .before .before .before .before .before .before .before .before .before .before .before .before .args .view .now)))) _ (c .before .before .before .before .before .before .before .before .before .before .no-slots .ensures) _ _ _ (c .before .before .before .before .before .before .before .before .before .put .ensures)) (c .before .before .before .before .before .before .before .before .before .put .kept .1 .1 .1 .1 .1 .0) X read _ (found-is (c .before .before .before .before .before .before .before .before .before .before .before .before .before .before .before .before .before .before .before .before .before .before .before .before .before .before .pre) (c .before .before .before .before .before .before .before .before .before .before .before .before .before .before .before .bring-view .ensures) (put-is (c .before .before .before .before .before .before .before .before .before .before .before .before .before .before .before .before .before .before .before .before .before .before .before .before .before .before .pre) (c .before .before .before .before .before .before .before .before .before .before .before .before .before .before .before .bring-view .ensures) _ _ (sym (length-map (c .before .before .before .before .before .before .before .before .before .before .before .before .before .before .before .before .before .before .before .before .before .before .before .before .before .before .args .nodes .now) (nodeAt (c .before .before .before .before .before .before .before .before .before .before .before .before .before .before .before .before .before .before .before .before .before .before .before .before .before .before .args .master .now)))) (sym (length-map (c .before .before .before .before .before .before .before .before .before .before .before .before .before .before .before .before .before .before .before .before .before .before .before .before .before .before .args .lines .now) (nodeAt (c .before .before .before .before .before .before .before .before .before .before .before .before .before .before .before .before .before .before .before .before .before .before .before .before .before .before .args .view .now)))) _ (c .before .before .before .before .before .before .before .before .before .before .no-slots .ensures) _ _ _ (c .before .before .before .before .before .before .before .before .before .put .ensures)) (c .before .before .before .before .before .before .before .before .before .put .kept .1 .1 .1 .1 .1 .0) _ (sym (length-map (c .before .before .before .before .before .before .before .before .before .before .before .before .before .before .before .before .before .before .before .before .before .before .before .before .before .before .args .nodes .now) (nodeAt (c .before .before .before .before .before .before .before .before .before .before .before .before .before .before .before .before .before .before .before .before .before .before .before .before .before .before .args .master .now)))) _ (c .before .before .before .before .first-clash .ensures) ∙ c .before .before .clash .given .1) _ (c .refuse .ensures)
+returns c = handed (c .before .before .before .before) .refuses _ (c .before .before .clash .given .1) _ (c .refuse .ensures)
 
--- src/put_back.rt:53:1
-same-length-2 : tie.Need-same-length-2
-same-length-2 c = search needs
-
--- src/put_back.rt:53:1
-same-length-3 : tie.Need-same-length-3
-same-length-3 c = search needs
-
--- src/put_back.rt:53:1
 returns-2 : tie.Need-returns-2
-returns-2 c = λ X read. handed-settles (c .before .before .before .before .before .before .before .before .before .before .before .before .before .before .before .before .before .before .before .before .before .before .before .before .before .before .before .before .before .before .pre) (c .before .before .before .before .before .before .before .before .before .before .before .before .before .before .before .before .before .before .before .bring-view .ensures) (put-is (c .before .before .before .before .before .before .before .before .before .before .before .before .before .before .before .before .before .before .before .before .before .before .before .before .before .before .before .before .before .before .pre) (c .before .before .before .before .before .before .before .before .before .before .before .before .before .before .before .before .before .before .before .bring-view .ensures) _ _ (sym (length-map (c .before .before .before .before .before .before .before .before .before .before .before .before .before .before .before .before .before .before .before .before .before .before .before .before .before .before .before .before .before .before .args .nodes .now) (nodeAt (c .before .before .before .before .before .before .before .before .before .before .before .before .before .before .before .before .before .before .before .before .before .before .before .before .before .before .before .before .before .before .args .master .now)))) (sym (length-map (c .before .before .before .before .before .before .before .before .before .before .before .before .before .before .before .before .before .before .before .before .before .before .before .before .before .before .before .before .before .before .args .lines .now) (nodeAt (c .before .before .before .before .before .before .before .before .before .before .before .before .before .before .before .before .before .before .before .before .before .before .before .before .before .before .before .before .before .before .args .view .now)))) _ (c .before .before .before .before .before .before .before .before .before .before .before .before .before .before .no-slots .ensures) _ _ _ (c .before .before .before .before .before .before .before .before .before .before .before .before .before .put .ensures)) (c .before .before .before .before .before .before .before .before .before .before .before .before .before .put .kept .1 .1 .1 .1 .1 .0) X read (found-is (c .before .before .before .before .before .before .before .before .before .before .before .before .before .before .before .before .before .before .before .before .before .before .before .before .before .before .before .before .before .before .pre) (c .before .before .before .before .before .before .before .before .before .before .before .before .before .before .before .before .before .before .before .bring-view .ensures) (put-is (c .before .before .before .before .before .before .before .before .before .before .before .before .before .before .before .before .before .before .before .before .before .before .before .before .before .before .before .before .before .before .pre) (c .before .before .before .before .before .before .before .before .before .before .before .before .before .before .before .before .before .before .before .bring-view .ensures) _ _ (sym (length-map (c .before .before .before .before .before .before .before .before .before .before .before .before .before .before .before .before .before .before .before .before .before .before .before .before .before .before .before .before .before .before .args .nodes .now) (nodeAt (c .before .before .before .before .before .before .before .before .before .before .before .before .before .before .before .before .before .before .before .before .before .before .before .before .before .before .before .before .before .before .args .master .now)))) (sym (length-map (c .before .before .before .before .before .before .before .before .before .before .before .before .before .before .before .before .before .before .before .before .before .before .before .before .before .before .before .before .before .before .args .lines .now) (nodeAt (c .before .before .before .before .before .before .before .before .before .before .before .before .before .before .before .before .before .before .before .before .before .before .before .before .before .before .before .before .before .before .args .view .now)))) _ (c .before .before .before .before .before .before .before .before .before .before .before .before .before .before .no-slots .ensures) _ _ _ (c .before .before .before .before .before .before .before .before .before .before .before .before .before .put .ensures)) (c .before .before .before .before .before .before .before .before .before .before .before .before .before .put .kept .1 .1 .1 .1 .1 .0) _ (sym (length-map (c .before .before .before .before .before .before .before .before .before .before .before .before .before .before .before .before .before .before .before .before .before .before .before .before .before .before .before .before .before .before .args .nodes .now) (nodeAt (c .before .before .before .before .before .before .before .before .before .before .before .before .before .before .before .before .before .before .before .before .before .before .before .before .before .before .before .before .before .before .args .master .now)))) _ (c .before .before .before .before .before .before .before .before .first-clash .ensures) ∙ c .before .before .before .before .before .before .enum-told .given .1) _ _ (c .before .before .before .write-master .ensures) _ (c .done .ensures)
+returns-2 c =
+    let w = c .before .before .before in
+    let t = w .before .before .before in
+    handed (t .before .before) .settles (t .enum-told .given .1) _ _ (w .write-master .ensures) _ (c .done .ensures)
 
 pub carry-spec : {M : Type 1} → statement M
 carry-spec =
-    tie.close
-    (tie.spec
-    bring-view-requires
-    slice-aggregate-put
-    no-slots-requires
-    put-requires
-    first-clash-requires
-    enum-known-clash
-    refuse-requires
-    enum-told
-    write-master-requires
-    done-requires
-    same-length
-    returns
-    same-length-2
-    same-length-3
+    tie.close (tie.spec bring-view-requires (λ c κs. search needs) (λ c. search needs) put-requires first-clash-requires (λ c. search needs)
+    refuse-requires (λ c. search needs) write-master-requires done-requires (λ c. search needs) returns (λ c. search needs) (λ c. search needs)
     returns-2)

@@ -12,7 +12,8 @@ use Rattle.calls.proofs.put_back.first_clash.Tie as tie
 
 abbrev Inv-loop : tie.InvT-loop
 Inv-loop work len k₀ k =
-    (k ≤ len) × ((texts : ℕ → List ℕ) → firstFrom isClash k (standingsAt texts work (256 + k) (len - k)) ≡ firstFrom isClash 0 (standingsAt texts work 256 len))
+    (k ≤ len)
+    × ((texts : ℕ → List ℕ) → firstFrom isClash k (standingsAt texts work (256 + k) (len - k)) ≡ firstFrom isClash 0 (standingsAt texts work 256 len))
 
 abbrev μ-loop : tie.MeasureT-loop
 μ-loop work len k₀ k = len - k
@@ -31,8 +32,10 @@ shared-slice-read-if1 c = omega (arith, c .before .before .loop .inv .0)
 
 returns : tie.Need-returns Inv-loop μ-loop
 returns c =
-    let a = c .before .before .before .before .args in
-    λ texts. sym (clash-here texts (a .work .now) (a .len) (c .before .before .before .loop .k) (c .before .before .before .before .pre) (c .before .before .loop-test .taken) (c .if1 .taken)) ∙ c .before .before .before .loop .inv .1 texts
+    let t = c .before .before in
+    let l = t .before in
+    let s = l .before in
+    λ texts. sym (clash-here texts (s .args .work .now) (s .args .len) (l .loop .k) (s .pre) (t .loop-test .taken) (c .if1 .taken)) ∙ l .loop .inv .1 texts
 
 add-k : tie.Need-add-k Inv-loop μ-loop
 add-k c = omega (arith, c .before .before .before .loop .inv .0)
@@ -42,26 +45,17 @@ loop-less c = omega (arith, c .before .before .before .loop .inv .0)
 
 loop-again : tie.Need-loop-again Inv-loop μ-loop
 loop-again c =
-    let a = c .before .before .before .before .args in
-    (omega arith, λ texts. sym (clash-later texts (a .work .now) (a .len) (c .before .before .before .loop .k) (c .before .before .before .before .pre) (c .before .before .loop-test .taken) (c .if1 .left)) ∙ c .before .before .before .loop .inv .1 texts)
+    let t = c .before .before in
+    let l = t .before in
+    let s = l .before in
+    (omega arith, λ texts. sym (clash-later texts (s .args .work .now) (s .args .len) (l .loop .k) (s .pre) (t .loop-test .taken) (c .if1 .left)) ∙ l .loop .inv .1 texts)
 
 returns-2 : tie.Need-returns-2 Inv-loop μ-loop
 returns-2 c =
-    let a = c .before .before .args in
-    λ texts. sym (clash-none texts (a .work .now) (a .len) (c .before .loop .k) (c .before .before .pre) (c .loop-test .left)) ∙ c .before .loop .inv .1 texts
+    let l = c .before in
+    let s = l .before in
+    λ texts. sym (clash-none texts (s .args .work .now) (s .args .len) (l .loop .k) (s .pre) (c .loop-test .left)) ∙ l .loop .inv .1 texts
 
 pub first-clash-spec : {M : Type 1} → statement M
 first-clash-spec =
-    tie.close
-    (tie.spec
-    Inv-loop
-    μ-loop
-    loop-holds
-    add-if1
-    mul-if1
-    shared-slice-read-if1
-    returns
-    add-k
-    loop-less
-    loop-again
-    returns-2)
+    tie.close (tie.spec Inv-loop μ-loop loop-holds add-if1 mul-if1 shared-slice-read-if1 returns add-k loop-less loop-again returns-2)

@@ -1,191 +1,86 @@
+-- The program, the master, the run: each goes on, or its refusal is the whole judging's.
 use native.Mathlib.Omega.{arith}
-use Rattle.calls.specs.Judging.{judgedProgram, judgedMaster}
-use Rattle.calls.proofs.Steps.{refused-first, refused-later, program-goes, program-refused, master-goes, master-refused, run-goes, run-refused, runnable, stopped-reaches}
 use borrow.Author.Needs.{needs}
+use Rattle.calls.specs.Judging.{judgedProgram, judgedMaster}
+use Rattle.calls.specs.Parts.{ProgramGoes, MasterGoes}
+use Rattle.calls.proofs.Steps.{refused-first, refused-later, program-goes, program-refused, master-goes, master-refused}
+use Rattle.calls.proofs.Steps.{run-goes, run-refused, runnable, stopped-reaches}
 use Rattle.calls.proofs.reach.reach.Statement.{statement}
 use Rattle.calls.proofs.reach.reach.Tie as tie
-use Rattle.calls.proofs.reach.reach.Reads as reads
-use Rattle.calls.proofs.reach.reach.Lts as lts
-use Rattle.calls.proofs.files.judge_master.Reads as judge-master-reads
-use Rattle.calls.proofs.files.judge_program.Reads as judge-program-reads
-use Rattle.calls.proofs.source.run.Reads as run-reads
 
--- src/reach.rt:32:9
-judge-program-requires : tie.Need-judge-program-requires
-judge-program-requires c κs = search needs
+-- from a step back to its judging, and to the entry
+abbrev program-judged : tie.After-program-step2 → tie.After-judge-program
+program-judged p = p .before .before .before .before .before .before
 
--- src/reach.rt:34:23
-enum-known-program-step : tie.Need-enum-known-program-step
-enum-known-program-step c = search needs
+abbrev entered : tie.After-judge-program → tie.Start
+entered p = p .before .before .before .before .before .before .before .before .before
 
--- src/reach.rt:35:20
-enum-known-program-step-2 : tie.Need-enum-known-program-step-2
-enum-known-program-step-2 c = search needs
+abbrev program-passed : tie.After-judge-master → tie.After-program-step2
+program-passed p = p .before .before .before
 
--- src/reach.rt:36:17
-judge-master-requires : tie.Need-judge-master-requires
-judge-master-requires c κs = search needs
+abbrev master-judged : tie.After-master-step2 → tie.After-judge-master
+master-judged p = p .before .before .before .before
 
--- src/reach.rt:38:31
-enum-known-master-step : tie.Need-enum-known-master-step
-enum-known-master-step c = search needs
+program : (p : tie.After-program-step2) → let j = program-judged p in
+    ProgramGoes (entered j .args .program .now) (j .judge-program .last .1 .0) (j .judge-program .last .1 .1 .0) (p .program-step2 .given .0 .0)
+program p = program-goes _ _ _ _ (program-judged p .judge-program .ensures) _ (p .program-step2 .given .1)
 
--- src/reach.rt:39:28
-enum-known-master-step-2 : tie.Need-enum-known-master-step-2
-enum-known-master-step-2 c = search needs
+master : (p : tie.After-master-step2) → let j = master-judged p in let a = entered (program-judged (program-passed j)) .args in
+    MasterGoes (a .putting) (a .master .now) (j .judge-master .last .1 .0) (p .master-step2 .given .0 .0)
+master p = master-goes _ _ _ _ (master-judged p .judge-master .ensures) _ (p .master-step2 .given .1)
 
--- src/reach.rt:42:25
-sub-run : tie.Need-sub-run
-sub-run c = search needs
+part-run-program-end : tie.Need-part-run-program-end
+part-run-program-end c = omega (arith, program (program-passed (master-judged (c .before .before))) .few)
 
--- src/reach.rt:42:25
-part-run-start : tie.Need-part-run-start
-part-run-start c = search needs
+part-run-program-end-2 : tie.Need-part-run-program-end-2
+part-run-program-end-2 c = omega (arith, program (program-passed (master-judged (c .before .before .before .before))) .few)
 
--- src/reach.rt:42:25
-part-run-end : tie.Need-part-run-end
-part-run-end c = omega (arith, (program-goes (c .before .before .before .before .before .before .before .before .before .before .before .before .before .before .before .before .before .before .before .before .before .before .before .before .args .program .now) (c .before .before .before .before .before .before .before .before .before .before .before .before .before .before .before .judge-program .last .1 .0) (c .before .before .before .before .before .before .before .before .before .before .before .before .before .before .before .judge-program .last .1 .1 .0) _ (c .before .before .before .before .before .before .before .before .before .before .before .before .before .before .before .judge-program .ensures) _ (c .before .before .before .before .before .before .before .before .before .program-step2 .given .1)) .few)
+part-run-program-end-3 : tie.Need-part-run-program-end-3
+part-run-program-end-3 c = omega (arith, master (c .before .before .before .before .before .before) .few)
 
--- src/reach.rt:43:25
-sub-run-2 : tie.Need-sub-run-2
-sub-run-2 c = search needs
+run-program-requires : tie.Need-run-program-requires
+run-program-requires c κs = (
+  runnable (program (program-passed (master-judged (c .before .before .before .before .before .before .before .before))))
+      (master (c .before .before .before .before .before .before .before .before)),
+  omega arith,
+)
 
--- src/reach.rt:43:25
-part-run-start-2 : tie.Need-part-run-start-2
-part-run-start-2 c = search needs
-
--- src/reach.rt:43:25
-part-run-end-2 : tie.Need-part-run-end-2
-part-run-end-2 c = omega (arith, (program-goes (c .before .before .before .before .before .before .before .before .before .before .before .before .before .before .before .before .before .before .before .before .before .before .before .before .before .before .args .program .now) (c .before .before .before .before .before .before .before .before .before .before .before .before .before .before .before .before .before .judge-program .last .1 .0) (c .before .before .before .before .before .before .before .before .before .before .before .before .before .before .before .before .before .judge-program .last .1 .1 .0) _ (c .before .before .before .before .before .before .before .before .before .before .before .before .before .before .before .before .before .judge-program .ensures) _ (c .before .before .before .before .before .before .before .before .before .before .before .program-step2 .given .1)) .few)
-
--- src/reach.rt:45:25
-sub-run-3 : tie.Need-sub-run-3
-sub-run-3 c = search needs
-
--- src/reach.rt:45:25
-part-run-start-3 : tie.Need-part-run-start-3
-part-run-start-3 c = search needs
-
--- src/reach.rt:45:25
-part-run-end-3 : tie.Need-part-run-end-3
-part-run-end-3 c = omega (arith, (master-goes (c .before .before .before .before .before .before .before .before .before .before .before .before .before .before .before .before .before .before .before .before .before .before .before .before .before .before .before .before .args .putting) (c .before .before .before .before .before .before .before .before .before .before .before .before .before .before .before .before .before .before .before .before .before .before .before .before .before .before .before .before .args .master .now) (c .before .before .before .before .before .before .before .before .before .before .judge-master .last .1 .0) _ (c .before .before .before .before .before .before .before .before .before .before .judge-master .ensures) _ (c .before .before .before .before .before .before .master-step2 .given .1)) .few)
-
--- src/reach.rt:40:25
-run-requires : tie.Need-run-requires
-run-requires c κs = (runnable (program-goes (c .before .before .before .before .before .before .before .before .before .before .before .before .before .before .before .before .before .before .before .before .before .before .before .before .before .before .before .before .before .before .args .program .now) (c .before .before .before .before .before .before .before .before .before .before .before .before .before .before .before .before .before .before .before .before .before .judge-program .last .1 .0) (c .before .before .before .before .before .before .before .before .before .before .before .before .before .before .before .before .before .before .before .before .before .judge-program .last .1 .1 .0) _ (c .before .before .before .before .before .before .before .before .before .before .before .before .before .before .before .before .before .before .before .before .before .judge-program .ensures) _ (c .before .before .before .before .before .before .before .before .before .before .before .before .before .before .before .program-step2 .given .1)) (master-goes (c .before .before .before .before .before .before .before .before .before .before .before .before .before .before .before .before .before .before .before .before .before .before .before .before .before .before .before .before .before .before .args .putting) (c .before .before .before .before .before .before .before .before .before .before .before .before .before .before .before .before .before .before .before .before .before .before .before .before .before .before .before .before .before .before .args .master .now) (c .before .before .before .before .before .before .before .before .before .before .before .before .judge-master .last .1 .0) _ (c .before .before .before .before .before .before .before .before .before .before .before .before .judge-master .ensures) _ (c .before .before .before .before .before .before .before .before .master-step2 .given .1)), omega arith)
-
--- src/reach.rt:49:39
-enum-known-run-step : tie.Need-enum-known-run-step
-enum-known-run-step c = search needs
-
--- src/reach.rt:50:36
-enum-known-run-step-2 : tie.Need-enum-known-run-step-2
-enum-known-run-step-2 c = search needs
-
--- src/reach.rt:19:1
-same-length : tie.Need-same-length
-same-length c = search needs
-
--- src/reach.rt:19:1
-same-length-2 : tie.Need-same-length-2
-same-length-2 c = search needs
-
--- src/reach.rt:19:1
 returns : tie.Need-returns
-returns c = λ rest. refused-first _ (judgedProgram (c .before .before .before .before .before .before .before .before .before .before .before .before .before .before .before .before .args .program .now)) _ (program-refused (c .before .before .before .before .before .before .before .before .before .before .before .before .before .before .before .before .args .program .now) (c .before .before .before .before .before .before .before .judge-program .last .1 .0) (c .before .before .before .before .before .before .before .judge-program .last .1 .1 .0) _ (c .before .before .before .before .before .before .before .judge-program .ensures) _ (c .before .program-step .given .1))
+returns c =
+    let j = c .before .before .before .before .before .before .before in
+    let program = entered j .args .program .now in
+    let refused = program-refused program _ _ _ (j .judge-program .ensures) _ (c .before .program-step .given .1) in
+    λ rest. refused-first _ (judgedProgram program) _ refused
 
--- src/reach.rt:19:1
-same-length-3 : tie.Need-same-length-3
-same-length-3 c = search needs
-
--- src/reach.rt:19:1
-same-length-4 : tie.Need-same-length-4
-same-length-4 c = search needs
-
--- src/reach.rt:19:1
-same-length-5 : tie.Need-same-length-5
-same-length-5 c = search needs
-
--- src/reach.rt:19:1
 returns-2 : tie.Need-returns-2
-returns-2 c = λ rest. let p = program-goes (c .before .before .before .before .before .before .before .before .before .before .before .before .before .before .before .before .before .before .before .before .before .before .before .args .program .now) (c .before .before .before .before .before .before .before .before .before .before .before .before .before .before .judge-program .last .1 .0) (c .before .before .before .before .before .before .before .before .before .before .before .before .before .before .judge-program .last .1 .1 .0) _ (c .before .before .before .before .before .before .before .before .before .before .before .before .before .before .judge-program .ensures) _ (c .before .before .before .before .before .before .before .before .program-step2 .given .1) in refused-later _ (judgedProgram (c .before .before .before .before .before .before .before .before .before .before .before .before .before .before .before .before .before .before .before .before .before .before .before .args .program .now)) (p .tree) (p .judged) _ (refused-first _ (judgedMaster (c .before .before .before .before .before .before .before .before .before .before .before .before .before .before .before .before .before .before .before .before .before .before .before .args .putting) (c .before .before .before .before .before .before .before .before .before .before .before .before .before .before .before .before .before .before .before .before .before .before .before .args .master .now)) _ (master-refused (c .before .before .before .before .before .before .before .before .before .before .before .before .before .before .before .before .before .before .before .before .before .before .before .args .putting) (c .before .before .before .before .before .before .before .before .before .before .before .before .before .before .before .before .before .before .before .before .before .before .before .args .master .now) (c .before .before .before .before .before .judge-master .last .1 .0) _ (c .before .before .before .before .before .judge-master .ensures) _ (c .before .master-step .given .1)))
+returns-2 c =
+    let j = c .before .before .before .before .before in
+    let a = entered (program-judged (program-passed j)) .args in
+    let goes = program (program-passed j) in
+    let refused = master-refused (a .putting) (a .master .now) _ _ (j .judge-master .ensures) _ (c .before .master-step .given .1) in
+    λ rest. refused-later _ (judgedProgram (a .program .now)) (goes .tree) (goes .judged) _
+    (refused-first _ (judgedMaster (a .putting) (a .master .now)) _ refused)
 
--- src/reach.rt:19:1
-same-length-6 : tie.Need-same-length-6
-same-length-6 c = search needs
-
--- src/reach.rt:19:1
-same-length-7 : tie.Need-same-length-7
-same-length-7 c = search needs
-
--- src/reach.rt:19:1
-same-length-8 : tie.Need-same-length-8
-same-length-8 c = search needs
-
--- src/reach.rt:19:1
-same-length-9 : tie.Need-same-length-9
-same-length-9 c = search needs
-
--- src/reach.rt:19:1
 returns-3 : tie.Need-returns-3
-returns-3 c = stopped-reaches (program-goes (c .before .before .before .before .before .before .before .before .before .before .before .before .before .before .before .before .before .before .before .before .before .before .before .before .before .before .before .before .before .before .before .before .before .before .before .before .args .program .now) (c .before .before .before .before .before .before .before .before .before .before .before .before .before .before .before .before .before .before .before .before .before .before .before .before .before .before .before .judge-program .last .1 .0) (c .before .before .before .before .before .before .before .before .before .before .before .before .before .before .before .before .before .before .before .before .before .before .before .before .before .before .before .judge-program .last .1 .1 .0) _ (c .before .before .before .before .before .before .before .before .before .before .before .before .before .before .before .before .before .before .before .before .before .before .before .before .before .before .before .judge-program .ensures) _ (c .before .before .before .before .before .before .before .before .before .before .before .before .before .before .before .before .before .before .before .before .before .program-step2 .given .1)) (master-goes (c .before .before .before .before .before .before .before .before .before .before .before .before .before .before .before .before .before .before .before .before .before .before .before .before .before .before .before .before .before .before .before .before .before .before .before .before .args .putting) (c .before .before .before .before .before .before .before .before .before .before .before .before .before .before .before .before .before .before .before .before .before .before .before .before .before .before .before .before .before .before .before .before .before .before .before .before .args .master .now) (c .before .before .before .before .before .before .before .before .before .before .before .before .before .before .before .before .before .before .judge-master .last .1 .0) _ (c .before .before .before .before .before .before .before .before .before .before .before .before .before .before .before .before .before .before .judge-master .ensures) _ (c .before .before .before .before .before .before .before .before .before .before .before .before .before .before .master-step2 .given .1)) _ (run-refused _ _ _ _ (c .before .before .before .before .before .run .ensures) _ (c .before .run-step .given .1))
+returns-3 c =
+    let r = c .before .before .before .before .before in
+    let m = r .before .before .before .before .before .before .before .before .before in
+    stopped-reaches (program (program-passed (master-judged m))) (master m) _ (run-refused _ _ _ _ (r .run-program .ensures) _ (c .before .run-step .given .1))
 
--- src/reach.rt:19:1
-same-length-10 : tie.Need-same-length-10
-same-length-10 c = search needs
-
--- src/reach.rt:19:1
-same-length-11 : tie.Need-same-length-11
-same-length-11 c = search needs
-
--- src/reach.rt:19:1
-same-length-12 : tie.Need-same-length-12
-same-length-12 c = search needs
-
--- src/reach.rt:19:1
-same-length-13 : tie.Need-same-length-13
-same-length-13 c = search needs
-
--- src/reach.rt:19:1
 returns-4 : tie.Need-returns-4
-returns-4 c = record { of-program = program-goes (c .before .before .before .before .before .before .before .before .before .before .before .before .before .before .before .before .before .before .before .before .before .before .before .before .before .before .before .before .before .before .before .before .before .before .before .before .args .program .now) (c .before .before .before .before .before .before .before .before .before .before .before .before .before .before .before .before .before .before .before .before .before .before .before .before .before .before .before .judge-program .last .1 .0) (c .before .before .before .before .before .before .before .before .before .before .before .before .before .before .before .before .before .before .before .before .before .before .before .before .before .before .before .judge-program .last .1 .1 .0) _ (c .before .before .before .before .before .before .before .before .before .before .before .before .before .before .before .before .before .before .before .before .before .before .before .before .before .before .before .judge-program .ensures) _ (c .before .before .before .before .before .before .before .before .before .before .before .before .before .before .before .before .before .before .before .before .before .program-step2 .given .1); of-master = master-goes (c .before .before .before .before .before .before .before .before .before .before .before .before .before .before .before .before .before .before .before .before .before .before .before .before .before .before .before .before .before .before .before .before .before .before .before .before .args .putting) (c .before .before .before .before .before .before .before .before .before .before .before .before .before .before .before .before .before .before .before .before .before .before .before .before .before .before .before .before .before .before .before .before .before .before .before .before .args .master .now) (c .before .before .before .before .before .before .before .before .before .before .before .before .before .before .before .before .before .before .judge-master .last .1 .0) _ (c .before .before .before .before .before .before .before .before .before .before .before .before .before .before .before .before .before .before .judge-master .ensures) _ (c .before .before .before .before .before .before .before .before .before .before .before .before .before .before .master-step2 .given .1); of-run = run-goes _ _ _ _ (c .before .before .before .before .before .run .ensures) _ (c .before .run-step2 .given .1) }
+returns-4 c =
+    let r = c .before .before .before .before .before in
+    let m = r .before .before .before .before .before .before .before .before .before in
+    record {
+      of-program = program (program-passed (master-judged m));
+      of-master = master m;
+      of-run = run-goes _ _ _ _ (r .run-program .ensures) _ (c .before .run-step2 .given .1);
+    }
 
 pub reach-spec : {M : Type 1} → statement M
 reach-spec =
-    tie.close
-    (tie.spec
-    judge-program-requires
-    enum-known-program-step
-    enum-known-program-step-2
-    judge-master-requires
-    enum-known-master-step
-    enum-known-master-step-2
-    sub-run
-    part-run-start
-    part-run-end
-    sub-run-2
-    part-run-start-2
-    part-run-end-2
-    sub-run-3
-    part-run-start-3
-    part-run-end-3
-    run-requires
-    enum-known-run-step
-    enum-known-run-step-2
-    same-length
-    same-length-2
-    returns
-    same-length-3
-    same-length-4
-    same-length-5
-    returns-2
-    same-length-6
-    same-length-7
-    same-length-8
-    same-length-9
-    returns-3
-    same-length-10
-    same-length-11
-    same-length-12
-    same-length-13
-    returns-4)
+    tie.close (tie.spec (λ c κs. search needs) (λ c. search needs) (λ c. search needs) (λ c κs. search needs) (λ c. search needs) (λ c. search needs)
+    (λ c. search needs) (λ c. search needs) part-run-program-end (λ c. search needs) (λ c. search needs) part-run-program-end-2 (λ c. search needs)
+    (λ c. search needs) part-run-program-end-3 run-program-requires (λ c. search needs) (λ c. search needs) (λ c. search needs) (λ c. search needs)
+    returns (λ c. search needs) (λ c. search needs) (λ c. search needs) returns-2 (λ c. search needs) (λ c. search needs) (λ c. search needs)
+    (λ c. search needs) returns-3 (λ c. search needs) (λ c. search needs) (λ c. search needs) (λ c. search needs) returns-4)

@@ -1,60 +1,43 @@
 -- By the mark of line `i`.
-use mathlib.Core.Path.{sym, _∙_}
-use mathlib.Core.List.{map}
+use mathlib.Core.Path.{_≡_, sym, _∙_}
+use mathlib.Core.List.{List}
 use lib.ListN.{getD}
 use borrow.Author.Needs.{needs}
-use Rattle.lines.specs.Nodes.{nodeAt}
+use Rattle.lines.specs.Nodes.{Node as Line}
 use Rattle.runs.specs.Grounds.{noLine}
+use Rattle.runs.specs.Runs.{linesOf}
 use Rattle.calls.proofs.ViewWords.{mark-read, word-changed, word-deleted, word-untouched}
 use Rattle.calls.proofs.view_in.brought.Statement.{statement}
 use Rattle.calls.proofs.view_in.brought.Tie as tie
 
-mul-mark-at : tie.Need-mul-mark-at
-mul-mark-at c = search needs
+abbrev es : tie.Start → List Line
+es s = linesOf (s .args .view .now) (s .args .lines .now)
 
-shared-slice-read-mark-at : tie.Need-shared-slice-read-mark-at
-shared-slice-read-mark-at c = search needs
+abbrev line : tie.Start → Line
+line s = getD (es s) (s .args .i) noLine
 
-mark-at-requires : tie.Need-mark-at-requires
-mark-at-requires c κs = search needs
-
-first-same-requires : tie.Need-first-same-requires
-first-same-requires c κs = search needs
-
-cast-result : tie.Need-cast-result
-cast-result c = search needs
-
-add-result : tie.Need-add-result
-add-result c = search needs
+mark : (p : tie.After-mark-at) → p .mark-at .result ≡ line (p .before .before .before .before) .mark
+mark p = let s = p .before .before .before .before in mark-read (s .args .view .now) (s .args .lines .now) (s .args .i) (s .pre .0) (p .mark-at .ensures)
 
 returns : tie.Need-returns
 returns c =
-    let a = c .before .before .before .before .before .before .args in
-    let m = mark-read (a .view .now) (a .lines .now) (a .i) (c .before .before .before .before .before .before .pre .0) (c .before .before .mark-at .ensures) in
-    word-changed (map (nodeAt (a .view .now)) (a .lines .now)) (getD (map (nodeAt (a .view .now)) (a .lines .now)) (a .i) noLine) (sym m ∙ c .before .if1 .taken) (c .first-same .ensures .0)
+    let p = c .before .before in
+    let s = p .before .before .before .before in
+    word-changed (es s) (line s) (sym (mark p) ∙ c .before .if1 .taken) (c .first-same .ensures .0)
 
 returns-2 : tie.Need-returns-2
 returns-2 c =
-    let a = c .before .before .before .before .before .before .args in
-    let m = mark-read (a .view .now) (a .lines .now) (a .i) (c .before .before .before .before .before .before .pre .0) (c .before .before .mark-at .ensures) in
-    word-deleted (map (nodeAt (a .view .now)) (a .lines .now)) (getD (map (nodeAt (a .view .now)) (a .lines .now)) (a .i) noLine) (λ e. c .before .if1 .left (m ∙ e)) (sym m ∙ c .if2 .taken)
+    let p = c .before .before in
+    let s = p .before .before .before .before in
+    word-deleted (es s) (line s) (λ e. c .before .if1 .left (mark p ∙ e)) (sym (mark p) ∙ c .if2 .taken)
 
 returns-3 : tie.Need-returns-3
 returns-3 c =
-    let a = c .before .before .before .before .before .before .args in
-    let m = mark-read (a .view .now) (a .lines .now) (a .i) (c .before .before .before .before .before .before .pre .0) (c .before .before .mark-at .ensures) in
-    word-untouched (map (nodeAt (a .view .now)) (a .lines .now)) (getD (map (nodeAt (a .view .now)) (a .lines .now)) (a .i) noLine) (λ e. c .before .if1 .left (m ∙ e)) (λ e. c .if2 .left (m ∙ e))
+    let p = c .before .before in
+    let s = p .before .before .before .before in
+    word-untouched (es s) (line s) (λ e. c .before .if1 .left (mark p ∙ e)) (λ e. c .if2 .left (mark p ∙ e))
 
 pub brought-spec : {M : Type 1} → statement M
 brought-spec =
-    tie.close
-    (tie.spec
-    mul-mark-at
-    shared-slice-read-mark-at
-    mark-at-requires
-    first-same-requires
-    cast-result
-    add-result
-    returns
-    returns-2
-    returns-3)
+    tie.close (tie.spec (λ c. search needs) (λ c. search needs) (λ c κs. search needs) (λ c κs. search needs) (λ c. search needs) (λ c. search needs)
+    returns returns-2 returns-3)

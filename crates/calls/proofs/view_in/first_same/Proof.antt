@@ -1,12 +1,11 @@
 -- The first line with the text from line `j` on is the first of all, and line `i` has it.
 use mathlib.Core.Path.{_≡_, refl, sym, _∙_}
-use mathlib.Core.List.{map}
 use Prim.Native.Nat.{_-_, _≤_, _<_}
 use native.Mathlib.Omega.{arith}
 use lib.ListN.{length, getD, drop}
 use borrow.Author.Needs.{needs}
-use Rattle.lines.specs.Nodes.{nodeAt}
 use Rattle.runs.specs.Grounds.{noLine}
+use Rattle.runs.specs.Runs.{linesOf}
 use Rattle.calls.specs.Parts.{firstWith}
 use Rattle.calls.proofs.ViewWords.{found-here, found-later, found-itself}
 use Rattle.calls.proofs.view_in.first_same.Statement.{statement}
@@ -15,35 +14,14 @@ use Rattle.calls.proofs.view_in.first_same.Tie as tie
 abbrev Inv-loop : tie.InvT-loop
 Inv-loop view lines i at j₀ j =
     (j ≤ i)
-    × (firstWith (getD (map (nodeAt view) lines) i noLine .text) j (map (nodeAt view) (drop j lines))
-    ≡ firstWith (getD (map (nodeAt view) lines) i noLine .text) 0 (map (nodeAt view) lines))
+    × (firstWith (getD (linesOf view lines) i noLine .text) j (linesOf view (drop j lines))
+    ≡ firstWith (getD (linesOf view lines) i noLine .text) 0 (linesOf view lines))
 
 abbrev μ-loop : tie.MeasureT-loop
 μ-loop view lines i at j₀ j = i - j
 
-mul-node-text : tie.Need-mul-node-text Inv-loop μ-loop
-mul-node-text c = search needs
-
-shared-slice-read-node-text : tie.Need-shared-slice-read-node-text Inv-loop μ-loop
-shared-slice-read-node-text c = search needs
-
-node-text-requires : tie.Need-node-text-requires Inv-loop μ-loop
-node-text-requires c κs = search needs
-
 loop-holds : tie.Need-loop-holds Inv-loop μ-loop
 loop-holds c = (omega arith, refl)
-
-mul-node-text-2 : tie.Need-mul-node-text-2 Inv-loop μ-loop
-mul-node-text-2 c = search needs
-
-shared-slice-read-node-text-2 : tie.Need-shared-slice-read-node-text-2 Inv-loop μ-loop
-shared-slice-read-node-text-2 c = search needs
-
-node-text-requires-2 : tie.Need-node-text-requires-2 Inv-loop μ-loop
-node-text-requires-2 c κs = search needs
-
-same-text-requires : tie.Need-same-text-requires Inv-loop μ-loop
-same-text-requires c κs = search needs
 
 returns : tie.Need-returns Inv-loop μ-loop
 returns c =
@@ -56,12 +34,6 @@ returns c =
     let e = found-here (b .args .view .now) (b .args .lines .now) (b .args .i) (b .pre) j h
     (t .node-text2 .ensures) (n .node-text .ensures) (sym (c .before .same-text .ensures) ∙ c .if1 .taken) in
     (sym e ∙ r .loop .inv .1, r .loop .inv .0)
-
-add-j : tie.Need-add-j Inv-loop μ-loop
-add-j c = search needs
-
-loop-less : tie.Need-loop-less Inv-loop μ-loop
-loop-less c = search needs
 
 loop-again : tie.Need-loop-again Inv-loop μ-loop
 loop-again c =
@@ -84,20 +56,5 @@ returns-2 c =
 
 pub first-same-spec : {M : Type 1} → statement M
 first-same-spec =
-    tie.close
-    (tie.spec
-    Inv-loop
-    μ-loop
-    mul-node-text
-    shared-slice-read-node-text
-    node-text-requires
-    loop-holds
-    mul-node-text-2
-    shared-slice-read-node-text-2
-    node-text-requires-2
-    same-text-requires
-    returns
-    add-j
-    loop-less
-    loop-again
-    returns-2)
+    tie.close (tie.spec Inv-loop μ-loop (λ c. search needs) (λ c. search needs) (λ c κs. search needs) loop-holds (λ c. search needs)
+    (λ c. search needs) (λ c κs. search needs) (λ c κs. search needs) returns (λ c. search needs) (λ c. search needs) loop-again returns-2)

@@ -4,12 +4,9 @@ use Rattle.lines.specs.Nodes.{nodeAt}
 use Rattle.lines.proofs.fields.depth_at.Statement.{statement}
 use Rattle.lines.proofs.fields.depth_at.Tie as tie
 
-pair-at-requires : tie.Need-pair-at-requires
-pair-at-requires c κs = search needs
-
 returns : tie.Need-returns
 unfolding nodeAt
 returns c = c .pair-at .ensures
 
 pub depth-at-spec : {M : Type 1} → statement M
-depth-at-spec = tie.close (tie.spec pair-at-requires returns)
+depth-at-spec = tie.close (tie.spec (λ c κs. search needs) returns)

@@ -4,12 +4,9 @@ use Rattle.lines.specs.Entries.{entryAt}
 use Rattle.lines.proofs.fields.operation_at.Statement.{statement}
 use Rattle.lines.proofs.fields.operation_at.Tie as tie
 
-pair-at-requires : tie.Need-pair-at-requires
-pair-at-requires c κs = search needs
-
 returns : tie.Need-returns
 unfolding entryAt
 returns c = c .pair-at .ensures
 
 pub operation-at-spec : {M : Type 1} → statement M
-operation-at-spec = tie.close (tie.spec pair-at-requires returns)
+operation-at-spec = tie.close (tie.spec (λ c κs. search needs) returns)

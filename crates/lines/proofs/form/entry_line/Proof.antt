@@ -24,66 +24,43 @@ line-two c e = omega (arith, line-some c e, length-decode c)
 first-byte : (c : List ℕ) {b : ℕ} → isLine c ≡ true → b ≡ pairAt c 0 → getD (decode c) 0 0 ≡ b
 first-byte c e q = getD-decode c 0 (line-some c e) ∙ sym q
 
-is-line-requires : tie.Need-is-line-requires
-is-line-requires c κs = search needs
+-- the entry, seen from a later place
+abbrev from-is-line : tie.After-is-line → tie.Start
+from-is-line p = p .before .before
 
 returns : tie.Need-returns
 unfolding entryLine
 returns c = rw (sym (c .before .is-line .ensures) ∙ not-true _ (c .if1 .taken))
 
-pair-at-requires : tie.Need-pair-at-requires
-pair-at-requires c κs = search needs
-
-class-of-requires : tie.Need-class-of-requires
-class-of-requires c κs = search needs
-
-enum-told : tie.Need-enum-told
-enum-told c = search needs
-
-row-of-requires : tie.Need-row-of-requires
-row-of-requires c κs = search needs
-
 sub-operand-form : tie.Need-sub-operand-form
-sub-operand-form c = omega (arith, line-two (c .before .before .before .before .before .before .before .args .c .now) (sym (c .before .before .before .before .before .is-line .ensures) ∙ not-false _ (c .before .before .before .before .if1 .left)))
+sub-operand-form c =
+    let else1 = c .before .before .before .before in
+    omega (arith, line-two (from-is-line (else1 .before) .args .c .now) (sym (else1 .before .is-line .ensures) ∙ not-false _ (else1 .if1 .left)))
 
 part-operand-form-start : tie.Need-part-operand-form-start
-part-operand-form-start c = omega (arith, line-two (c .before .before .before .before .before .before .before .args .c .now) (sym (c .before .before .before .before .before .is-line .ensures) ∙ not-false _ (c .before .before .before .before .if1 .left)))
-
-part-operand-form-end : tie.Need-part-operand-form-end
-part-operand-form-end c = search needs
-
-operand-form-requires : tie.Need-operand-form-requires
-operand-form-requires c κs = search needs
+part-operand-form-start c =
+    let else1 = c .before .before .before .before in
+    omega (arith, line-two (from-is-line (else1 .before) .args .c .now) (sym (else1 .before .is-line .ensures) ∙ not-false _ (else1 .if1 .left)))
 
 returns-2 : tie.Need-returns-2
 unfolding entryLine entryForm
 returns-2 c =
-    let line = c .before .before .before .before .before .before .before .args .c .now in
-    let good = sym (c .before .before .before .before .before .is-line .ensures) ∙ not-false _ (c .before .before .before .before .if1 .left) in
-    let first = first-byte line good (c .before .before .before .pair-at .ensures) in
+    let after-pair-at = c .before .before .before in
+    let line = from-is-line (after-pair-at .before .before) .args .c .now in
+    let good = sym (after-pair-at .before .before .is-line .ensures) ∙ not-false _ (after-pair-at .before .if1 .left) in
+    let first = first-byte line good (after-pair-at .pair-at .ensures) in
     rw (good, first, unknown-operand _ (drop 1 (decode line)) (sym (c .before .before .class-of .ensures) ∙ c .enum-told .given .1))
 
 returns-3 : tie.Need-returns-3
 unfolding entryLine entryForm
 returns-3 c =
-    let line = c .before .before .before .before .before .before .before .before .before .args .c .now in
-    let good = sym (c .before .before .before .before .before .before .before .is-line .ensures) ∙ not-false _ (c .before .before .before .before .before .before .if1 .left) in
-    let first = first-byte line good (c .before .before .before .before .before .pair-at .ensures) in
+    let after-pair-at = c .before .before .before .before .before in
+    let line = from-is-line (after-pair-at .before .before) .args .c .now in
+    let good = sym (after-pair-at .before .before .is-line .ensures) ∙ not-false _ (after-pair-at .before .if1 .left) in
+    let first = first-byte line good (after-pair-at .pair-at .ensures) in
     rw (good, first, ← c .before .before .row-of .ensures, drop-decode 1 line, ← take-rest 2 line) (c .operand-form .ensures)
 
 pub entry-line-spec : {M : Type 1} → statement M
 entry-line-spec =
-    tie.close
-    (tie.spec
-    is-line-requires
-    returns
-    pair-at-requires
-    class-of-requires
-    enum-told
-    row-of-requires
-    sub-operand-form
-    part-operand-form-start
-    part-operand-form-end
-    operand-form-requires
-    returns-2
-    returns-3)
+    tie.close (tie.spec (λ c κs. search needs) returns (λ c κs. search needs) (λ c κs. search needs) (λ c. search needs) (λ c κs. search needs)
+    sub-operand-form part-operand-form-start (λ c. search needs) (λ c κs. search needs) returns-2 returns-3)

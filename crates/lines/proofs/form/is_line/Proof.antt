@@ -7,9 +7,6 @@ use Rattle.lines.specs.Lines.{isLine}
 use Rattle.lines.proofs.form.is_line.Statement.{statement}
 use Rattle.lines.proofs.form.is_line.Tie as tie
 
-pairs-then-end-requires : tie.Need-pairs-then-end-requires
-pairs-then-end-requires c κs = search needs
-
 returns : tie.Need-returns
 unfolding isLine
 returns c = let p = sym (c .before .pairs-then-end .ensures) ∙ not-true _ (c .if1 .taken) in rw p
@@ -19,4 +16,4 @@ unfolding isLine
 returns-2 c = let p = sym (c .before .pairs-then-end .ensures) ∙ not-false _ (c .if1 .left) in rw (p, length-decode)
 
 pub is-line-spec : {M : Type 1} → statement M
-is-line-spec = tie.close (tie.spec pairs-then-end-requires returns returns-2)
+is-line-spec = tie.close (tie.spec (λ c κs. search needs) returns returns-2)

@@ -25,6 +25,10 @@ Inv-loop d i₀ i = (i ≤ length d) × (allOf (between 0x21 0x7E) (decode (drop
 abbrev μ-loop : tie.MeasureT-loop
 μ-loop d i₀ i = length d - i
 
+-- the entry, seen from a later place
+abbrev from-loop : tie.At-loop Inv-loop μ-loop → tie.Start Inv-loop μ-loop
+from-loop p = p .before .before .before
+
 returns : tie.Need-returns Inv-loop μ-loop
 unfolding isTag
 returns c = rw (length-decode, lt-leb 1 (length (c .before .before .args .d .now) / 2) (omega arith))
@@ -32,54 +36,37 @@ returns c = rw (length-decode, lt-leb 1 (length (c .before .before .args .d .now
 loop-holds : tie.Need-loop-holds Inv-loop μ-loop
 loop-holds c = (omega arith, refl)
 
-add-loop : tie.Need-add-loop Inv-loop μ-loop
-add-loop c = search needs
-
-pair-at-requires : tie.Need-pair-at-requires Inv-loop μ-loop
-pair-at-requires c κs = search needs
-
 returns-2 : tie.Need-returns-2 Inv-loop μ-loop
 returns-2 c =
-    let d = c .before .before .before .before .before .before .args .d .now in
-    let pair = all-pair (between 0x21 0x7E) d (c .before .before .before .loop .i) (c .before .before .loop-test .taken) in
-    tag-by d false (omega arith) (sym (c .before .before .before .loop .inv .1) ∙ (pair ∙ rw (← c .before .pair-at .ensures, lt-leb 0x21 _ (c .if2 .taken))))
+    let at-loop = c .before .before .before in
+    let d = from-loop at-loop .args .d .now in
+    let pair = all-pair (between 0x21 0x7E) d (at-loop .loop .i) (c .before .before .loop-test .taken) in
+    tag-by d false (omega arith) (sym (at-loop .loop .inv .1) ∙ (pair ∙ rw (← c .before .pair-at .ensures, lt-leb 0x21 _ (c .if2 .taken))))
 
 returns-3 : tie.Need-returns-3 Inv-loop μ-loop
 returns-3 c =
-    let d = c .before .before .before .before .before .before .before .args .d .now in
-    let pair = all-pair (between 0x21 0x7E) d (c .before .before .before .before .loop .i) (c .before .before .before .loop-test .taken) in
-    tag-by d false (omega arith) (sym (c .before .before .before .before .loop .inv .1) ∙ (pair ∙ rw (← c .before .before .pair-at .ensures, le-leb 0x21 _ (c .before .if2 .left), lt-leb _ 0x7E (c .if3 .taken))))
-
-add-i : tie.Need-add-i Inv-loop μ-loop
-add-i c = search needs
-
-loop-less : tie.Need-loop-less Inv-loop μ-loop
-loop-less c = search needs
+    let in-loop = c .before .before .before in
+    let at-loop = in-loop .before in
+    let d = from-loop at-loop .args .d .now in
+    let pair = all-pair (between 0x21 0x7E) d (at-loop .loop .i) (in-loop .loop-test .taken) in
+    tag-by d false (omega arith) (sym (at-loop .loop .inv .1) ∙
+    (pair ∙ rw (← c .before .before .pair-at .ensures, le-leb 0x21 _ (c .before .if2 .left), lt-leb _ 0x7E (c .if3 .taken))))
 
 loop-again : tie.Need-loop-again Inv-loop μ-loop
 loop-again c =
-    let d = c .before .before .before .before .before .before .before .args .d .now in
-    let pair = all-pair (between 0x21 0x7E) d (c .before .before .before .before .loop .i) (c .before .before .before .loop-test .taken) in
-    (omega arith, sym (pair ∙ rw (← c .before .before .pair-at .ensures, le-leb 0x21 _ (c .before .if2 .left), le-leb _ 0x7E (c .if3 .left))) ∙ c .before .before .before .before .loop .inv .1)
+    let in-loop = c .before .before .before in
+    let at-loop = in-loop .before in
+    let d = from-loop at-loop .args .d .now in
+    let pair = all-pair (between 0x21 0x7E) d (at-loop .loop .i) (in-loop .loop-test .taken) in
+    (omega arith, sym (pair ∙ rw (← c .before .before .pair-at .ensures, le-leb 0x21 _ (c .before .if2 .left), le-leb _ 0x7E (c .if3 .left))) ∙ at-loop .loop .inv .1)
 
 returns-4 : tie.Need-returns-4 Inv-loop μ-loop
 returns-4 c =
-    let d = c .before .before .before .before .args .d .now in
-    tag-by d true (omega arith) (sym (c .before .loop .inv .1) ∙ all-end (between 0x21 0x7E) d (c .before .loop .i) (c .loop-test .left))
+    let at-loop = c .before in
+    let d = from-loop at-loop .args .d .now in
+    tag-by d true (omega arith) (sym (at-loop .loop .inv .1) ∙ all-end (between 0x21 0x7E) d (at-loop .loop .i) (c .loop-test .left))
 
 pub is-tag-spec : {M : Type 1} → statement M
 is-tag-spec =
-    tie.close
-    (tie.spec
-    Inv-loop
-    μ-loop
-    returns
-    loop-holds
-    add-loop
-    pair-at-requires
-    returns-2
-    returns-3
-    add-i
-    loop-less
-    loop-again
-    returns-4)
+    tie.close (tie.spec Inv-loop μ-loop returns loop-holds (λ c. search needs) (λ c κs. search needs) returns-2 returns-3 (λ c. search needs)
+    (λ c. search needs) loop-again returns-4)

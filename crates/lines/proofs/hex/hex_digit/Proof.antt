@@ -5,18 +5,9 @@ use Rattle.lines.specs.Hex.{hexDigit}
 use Rattle.lines.proofs.hex.hex_digit.Statement.{statement}
 use Rattle.lines.proofs.hex.hex_digit.Tie as tie
 
-add-result : tie.Need-add-result
-add-result c = search needs
-
 returns : tie.Need-returns
 unfolding hexDigit
 returns c = rw (lt-ltb _ 10 (c .if1 .taken))
-
-sub-result : tie.Need-sub-result
-sub-result c = search needs
-
-add-result-2 : tie.Need-add-result-2
-add-result-2 c = search needs
 
 returns-2 : tie.Need-returns-2
 unfolding hexDigit
@@ -28,4 +19,4 @@ returns-3 c = rw (le-ltb _ 10 (c .before .if1 .left), le-ltb _ 16 (c .if2 .left)
 
 pub hex-digit-spec : {M : Type 1} → statement M
 hex-digit-spec =
-    tie.close (tie.spec add-result returns sub-result add-result-2 returns-2 returns-3)
+    tie.close (tie.spec (λ c. search needs) returns (λ c. search needs) (λ c. search needs) returns-2 returns-3)

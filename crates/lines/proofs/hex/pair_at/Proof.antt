@@ -14,69 +14,49 @@ no-digit : hexValue 0 ≡ 0
 unfolding hexValue
 no-digit = refl
 
+-- the entry, seen from a later place
+abbrev from-hex-value : tie.After-hex-value → tie.Start
+from-hex-value p = p .before .before .before .before
+
+abbrev from-hex-value2 : tie.After-hex-value2 → tie.Start
+from-hex-value2 p = from-hex-value (p .before .before .before)
+
 returns : tie.Need-returns
 unfolding pairAt hexValue
 returns c =
-    let s = c .before .before .args .s .now in
-    let p = c .before .before .args .p in
+    let entry = c .before .before in
+    let s = entry .args .s .now in
+    let p = entry .args .p in
     rw (List·getD-eq-default s 0 {n = p} (c .if1 .taken), List·getD-eq-default s 0 {n = suc p} (omega arith))
 
-shared-slice-read-hex-value : tie.Need-shared-slice-read-hex-value
-shared-slice-read-hex-value c = search needs
-
-hex-value-requires : tie.Need-hex-value-requires
-hex-value-requires c κs = search needs
-
-sub-if2 : tie.Need-sub-if2
-sub-if2 c = search needs
-
 mul-result : tie.Need-mul-result
-mul-result c = let a = c .before .before .before .before .before .args in omega (arith, value-small (getD (a .s .now) (a .p) 0))
+mul-result c = let a = from-hex-value (c .before) .args in omega (arith, value-small (getD (a .s .now) (a .p) 0))
 
 returns-2 : tie.Need-returns-2
 unfolding pairAt
 returns-2 c =
-    let s = c .before .before .before .before .before .args .s .now in
-    let p = c .before .before .before .before .before .args .p in
+    let entry = from-hex-value (c .before) in
+    let s = entry .args .s .now in
+    let p = entry .args .p in
     let z : hexValue (getD s (suc p) 0) ≡ 0 = rw (List·getD-eq-default s 0 {n = suc p} (omega arith)) no-digit in
     omega arith
 
-add-hex-value : tie.Need-add-hex-value
-add-hex-value c = search needs
-
-shared-slice-read-hex-value-2 : tie.Need-shared-slice-read-hex-value-2
-shared-slice-read-hex-value-2 c = search needs
-
-hex-value-requires-2 : tie.Need-hex-value-requires-2
-hex-value-requires-2 c κs = search needs
-
 mul-result-2 : tie.Need-mul-result-2
-mul-result-2 c = let a = c .before .before .before .before .before .before .before .args in omega (arith, value-small (getD (a .s .now) (a .p) 0))
+mul-result-2 c = let a = from-hex-value2 c .args in omega (arith, value-small (getD (a .s .now) (a .p) 0))
 
 add-result : tie.Need-add-result
-add-result c = let a = c .before .before .before .before .before .before .before .args in omega (arith, value-small (getD (a .s .now) (a .p) 0), value-small (getD (a .s .now) (a .p + 1) 0))
+add-result c = let a = from-hex-value2 c .args in omega (arith, value-small (getD (a .s .now) (a .p) 0), value-small (getD (a .s .now) (a .p + 1) 0))
 
 returns-3 : tie.Need-returns-3
 unfolding pairAt
 returns-3 c =
-    let s = c .before .before .before .before .before .before .before .args .s .now in
-    let p = c .before .before .before .before .before .before .before .args .p in
+    let entry = from-hex-value2 c in
+    let s = entry .args .s .now in
+    let p = entry .args .p in
     let z : hexValue (getD s (suc p) 0) ≡ hexValue (getD s (p + 1) 0) = ap (λ (k : ℕ). hexValue (getD s k 0)) (sym (add-one p)) in
     omega arith
 
 pub pair-at-spec : {M : Type 1} → statement M
 pair-at-spec =
-    tie.close
-    (tie.spec
-    returns
-    shared-slice-read-hex-value
-    hex-value-requires
-    sub-if2
-    mul-result
-    returns-2
-    add-hex-value
-    shared-slice-read-hex-value-2
-    hex-value-requires-2
-    mul-result-2
-    add-result
-    returns-3)
+    tie.close (tie.spec returns (λ c. search needs) (λ c κs. search needs) (λ c. search needs) mul-result returns-2 (λ c. search needs)
+    (λ c. search needs) (λ c κs. search needs) mul-result-2 add-result returns-3)

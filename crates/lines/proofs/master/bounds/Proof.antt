@@ -20,78 +20,61 @@ Inv-loop s starts most₀ k₀ most k = (k ≤ length starts) × (boundsFrom mos
 abbrev μ-loop : tie.MeasureT-loop
 μ-loop s starts most₀ k₀ most k = length starts - k
 
+-- the entry, seen from a later place
+abbrev from-loop : tie.At-loop Inv-loop μ-loop → tie.Start Inv-loop μ-loop
+from-loop p = p .before .before .before
+
 loop-holds : tie.Need-loop-holds Inv-loop μ-loop
 unfolding masterBounds
 loop-holds c = (omega arith, refl)
 
-mul-start : tie.Need-mul-start Inv-loop μ-loop
-mul-start c = search needs
-
-shared-slice-read-start : tie.Need-shared-slice-read-start Inv-loop μ-loop
-shared-slice-read-start c = search needs
-
-is-placed-requires : tie.Need-is-placed-requires Inv-loop μ-loop
-is-placed-requires c κs = search needs
-
 returns : tie.Need-returns Inv-loop μ-loop
 returns c =
-    let a = c .before .before .before .before .before .before .before .args in
-    let here = nodes-one (nodeAt (a .s .now)) (a .starts .now) (c .before .before .before .before .loop .k) (c .before .before .before .loop-test .taken) in
-    sym (rw here (bounds-fault (c .before .before .before .before .loop .most) (c .before .before .before .before .loop .k) _ _ (sym (c .before .is-placed .ensures) ∙ not-true _ (c .if1 .taken)))) ∙ c .before .before .before .before .loop .inv .1
-
-depth-at-requires : tie.Need-depth-at-requires Inv-loop μ-loop
-depth-at-requires c κs = search needs
-
-kind-at-requires : tie.Need-kind-at-requires Inv-loop μ-loop
-kind-at-requires c κs = search needs
-
-is-element-requires : tie.Need-is-element-requires Inv-loop μ-loop
-is-element-requires c κs = search needs
+    let in-loop = c .before .before .before in
+    let at-loop = in-loop .before in
+    let a = from-loop at-loop .args in
+    let here = nodes-one (nodeAt (a .s .now)) (a .starts .now) (at-loop .loop .k) (in-loop .loop-test .taken) in
+    sym (rw here (bounds-fault (at-loop .loop .most) (at-loop .loop .k) _ _ (sym (c .before .is-placed .ensures) ∙ not-true _ (c .if1 .taken)))) ∙ at-loop .loop .inv .1
 
 add-most : tie.Need-add-most Inv-loop μ-loop
 add-most c =
-    let a = c .before .before .before .before .before .before .before .before .before .before .before .args in
-    let n = nodeAt (a .s .now) (getD (a .starts .now) (c .before .before .before .before .before .before .before .before .loop .k) 0) in
-    omega (arith, placed-low (c .before .before .before .before .before .before .before .before .loop .most) (c .before .before .before .before .before .before .before .before .loop .k) n (sym (c .before .before .before .before .before .is-placed .ensures) ∙ not-false _ (c .before .before .before .before .if1 .left)), c .before .before .before .depth-at .ensures)
-
-add-k : tie.Need-add-k Inv-loop μ-loop
-add-k c = search needs
-
-loop-less : tie.Need-loop-less Inv-loop μ-loop
-loop-less c = search needs
+    let after-depth-at = c .before .before .before in
+    let at-loop = after-depth-at .before .before .before .before .before in
+    let a = from-loop at-loop .args in
+    let n = nodeAt (a .s .now) (getD (a .starts .now) (at-loop .loop .k) 0) in
+    omega (
+      arith,
+      placed-low (at-loop .loop .most) (at-loop .loop .k) n
+          (sym (after-depth-at .before .before .is-placed .ensures) ∙ not-false _ (after-depth-at .before .if1 .left)),
+      after-depth-at .depth-at .ensures,
+    )
 
 loop-again : tie.Need-loop-again Inv-loop μ-loop
 unfolding depthAfter
 loop-again c =
-    let a = c .before .before .before .before .before .before .before .before .before .before .before .args in
-    let n = nodeAt (a .s .now) (getD (a .starts .now) (c .before .before .before .before .before .before .before .before .loop .k) 0) in
-    let here = nodes-one (nodeAt (a .s .now)) (a .starts .now) (c .before .before .before .before .before .before .before .before .loop .k) (c .before .before .before .before .before .before .before .loop-test .taken) in
-    let good = sym (c .before .before .before .before .before .is-placed .ensures) ∙ not-false _ (c .before .before .before .before .if1 .left) in
-    let element : isElement (n .kind) ≡ c .before .is-element .result = ap isElement (sym (c .before .before .kind-at .ensures)) ∙ sym (c .before .is-element .ensures) in
-    let after : c .if2 .most ≡ depthAfter n = ⊎-elim (λ w. rw (element, w .0 .taken) (w .1 ∙ ap (λ (x : ℕ). x + 1) (c .before .before .before .depth-at .ensures))) (λ w. rw (element, w .0 .left) (w .1 ∙ c .before .before .before .depth-at .ensures)) (c .if2 .came) in
-    (omega arith, rw after (sym (rw here (bounds-more (c .before .before .before .before .before .before .before .before .loop .most) (c .before .before .before .before .before .before .before .before .loop .k) _ _ good)) ∙ c .before .before .before .before .before .before .before .before .loop .inv .1))
+    let after-is-element = c .before in
+    let after-depth-at = after-is-element .before .before in
+    let in-loop = after-depth-at .before .before .before .before in
+    let at-loop = in-loop .before in
+    let a = from-loop at-loop .args in
+    let n = nodeAt (a .s .now) (getD (a .starts .now) (at-loop .loop .k) 0) in
+    let here = nodes-one (nodeAt (a .s .now)) (a .starts .now) (at-loop .loop .k) (in-loop .loop-test .taken) in
+    let good = sym (after-depth-at .before .before .is-placed .ensures) ∙ not-false _ (after-depth-at .before .if1 .left) in
+    let element : isElement (n .kind) ≡ c .before .is-element .result = ap isElement (sym (after-is-element .before .kind-at .ensures)) ∙ sym
+    (after-is-element .is-element .ensures) in
+    let after : c .if2 .most ≡ depthAfter n = ⊎-elim
+    (λ w. rw (element, w .0 .taken) (w .1 ∙ ap (λ (x : ℕ). x + 1) (after-depth-at .depth-at .ensures)))
+    (λ w. rw (element, w .0 .left) (w .1 ∙ after-depth-at .depth-at .ensures)) (c .if2 .came) in
+    (omega arith, rw after (sym (rw here (bounds-more (at-loop .loop .most) (at-loop .loop .k) _ _ good)) ∙ at-loop .loop .inv .1))
 
 returns-2 : tie.Need-returns-2 Inv-loop μ-loop
 returns-2 c =
-    let a = c .before .before .before .before .args in
-    sym (rw (nodes-none (nodeAt (a .s .now)) (a .starts .now) (c .before .loop .k) (c .loop-test .left)) (bounds-end (c .before .loop .most) (c .before .loop .k))) ∙ c .before .loop .inv .1
+    let at-loop = c .before in
+    let a = from-loop at-loop .args in
+    sym (rw (nodes-none (nodeAt (a .s .now)) (a .starts .now) (at-loop .loop .k) (c .loop-test .left))
+    (bounds-end (at-loop .loop .most) (at-loop .loop .k))) ∙ at-loop .loop .inv .1
 
 pub bounds-spec : {M : Type 1} → statement M
 bounds-spec =
-    tie.close
-    (tie.spec
-    Inv-loop
-    μ-loop
-    loop-holds
-    mul-start
-    shared-slice-read-start
-    is-placed-requires
-    returns
-    depth-at-requires
-    kind-at-requires
-    is-element-requires
-    add-most
-    add-k
-    loop-less
-    loop-again
-    returns-2)
+    tie.close (tie.spec Inv-loop μ-loop loop-holds (λ c. search needs) (λ c. search needs) (λ c κs. search needs) returns (λ c κs. search needs)
+    (λ c κs. search needs) (λ c κs. search needs) add-most (λ c. search needs) (λ c. search needs) loop-again returns-2)

@@ -5,9 +5,6 @@ use Rattle.lines.specs.Masters.{placed}
 use Rattle.lines.proofs.master.is_placed.Statement.{statement}
 use Rattle.lines.proofs.master.is_placed.Tie as tie
 
-depth-at-requires : tie.Need-depth-at-requires
-depth-at-requires c κs = search needs
-
 returns : tie.Need-returns
 unfolding placed
 returns c = rw (← c .before .depth-at .ensures, lt-leb _ _ (c .if1 .taken))
@@ -16,17 +13,13 @@ returns-2 : tie.Need-returns-2
 unfolding placed
 returns-2 c = rw (← c .before .before .depth-at .ensures, le-leb _ _ (c .before .if1 .left), lt-leb _ 7 (c .if2 .taken))
 
-number-at-requires : tie.Need-number-at-requires
-number-at-requires c κs = search needs
-
-cast-result : tie.Need-cast-result
-cast-result c = search needs
-
 returns-3 : tie.Need-returns-3
 unfolding placed
-returns-3 c = rw (← c .before .before .before .depth-at .ensures, le-leb _ _ (c .before .before .if1 .left), le-leb _ 7 (c .before .if2 .left), ← c .number-at .ensures)
+returns-3 c =
+    let after-depth-at = c .before .before .before in
+    rw (← after-depth-at .depth-at .ensures, le-leb _ _ (c .before .before .if1 .left), le-leb _ 7 (c .before .if2 .left), ← c .number-at .ensures)
 
 pub is-placed-spec : {M : Type 1} → statement M
 is-placed-spec =
     tie.close
-    (tie.spec depth-at-requires returns returns-2 number-at-requires cast-result returns-3)
+    (tie.spec (λ c κs. search needs) returns returns-2 (λ c κs. search needs) (λ c. search needs) returns-3)

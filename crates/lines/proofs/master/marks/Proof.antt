@@ -21,60 +21,43 @@ Inv-loop s starts k₀ k = (k ≤ length starts) × (firstFrom isMarked k (map (
 abbrev μ-loop : tie.MeasureT-loop
 μ-loop s starts k₀ k = length starts - k
 
+-- the entry, seen from a later place
+abbrev from-loop : tie.At-loop Inv-loop μ-loop → tie.Start Inv-loop μ-loop
+from-loop p = p .before .before .before
+
 loop-holds : tie.Need-loop-holds Inv-loop μ-loop
 unfolding unmarked
 loop-holds c = (omega arith, refl)
 
-mul-mark-at : tie.Need-mul-mark-at Inv-loop μ-loop
-mul-mark-at c = search needs
-
-shared-slice-read-mark-at : tie.Need-shared-slice-read-mark-at Inv-loop μ-loop
-shared-slice-read-mark-at c = search needs
-
-mark-at-requires : tie.Need-mark-at-requires Inv-loop μ-loop
-mark-at-requires c κs = search needs
-
 returns : tie.Need-returns Inv-loop μ-loop
 unfolding isMarked
 returns c =
-    let a = c .before .before .before .before .before .before .before .args in
-    let here = nodes-one (nodeAt (a .s .now)) (a .starts .now) (c .before .before .before .before .loop .k) (c .before .before .before .loop-test .taken) in
-    let n = nodeAt (a .s .now) (getD (a .starts .now) (c .before .before .before .before .loop .k) 0) in
+    let in-loop = c .before .before .before in
+    let at-loop = in-loop .before in
+    let a = from-loop at-loop .args in
+    let here = nodes-one (nodeAt (a .s .now)) (a .starts .now) (at-loop .loop .k) (in-loop .loop-test .taken) in
+    let n = nodeAt (a .s .now) (getD (a .starts .now) (at-loop .loop .k) 0) in
     let marked : isMarked n ≡ true = rw (← c .before .mark-at .ensures, ne-eqb _ 0 (c .if1 .taken)) in
-    sym (rw here (first-here isMarked (c .before .before .before .before .loop .k) n _ marked)) ∙ c .before .before .before .before .loop .inv .1
-
-add-k : tie.Need-add-k Inv-loop μ-loop
-add-k c = search needs
-
-loop-less : tie.Need-loop-less Inv-loop μ-loop
-loop-less c = search needs
+    sym (rw here (first-here isMarked (at-loop .loop .k) n _ marked)) ∙ at-loop .loop .inv .1
 
 loop-again : tie.Need-loop-again Inv-loop μ-loop
 unfolding isMarked
 loop-again c =
-    let a = c .before .before .before .before .before .before .before .args in
-    let here = nodes-one (nodeAt (a .s .now)) (a .starts .now) (c .before .before .before .before .loop .k) (c .before .before .before .loop-test .taken) in
-    let n = nodeAt (a .s .now) (getD (a .starts .now) (c .before .before .before .before .loop .k) 0) in
+    let in-loop = c .before .before .before in
+    let at-loop = in-loop .before in
+    let a = from-loop at-loop .args in
+    let here = nodes-one (nodeAt (a .s .now)) (a .starts .now) (at-loop .loop .k) (in-loop .loop-test .taken) in
+    let n = nodeAt (a .s .now) (getD (a .starts .now) (at-loop .loop .k) 0) in
     let clear : isMarked n ≡ false = rw (← c .before .mark-at .ensures, eq-eqb _ 0 (c .if1 .left)) in
-    (omega arith, sym (rw here (first-later isMarked (c .before .before .before .before .loop .k) n _ clear)) ∙ c .before .before .before .before .loop .inv .1)
+    (omega arith, sym (rw here (first-later isMarked (at-loop .loop .k) n _ clear)) ∙ at-loop .loop .inv .1)
 
 returns-2 : tie.Need-returns-2 Inv-loop μ-loop
 returns-2 c =
-    let a = c .before .before .before .before .args in
-    sym (rw (nodes-none (nodeAt (a .s .now)) (a .starts .now) (c .before .loop .k) (c .loop-test .left)) (first-none isMarked (c .before .loop .k))) ∙ c .before .loop .inv .1
+    let at-loop = c .before in
+    let a = from-loop at-loop .args in
+    sym (rw (nodes-none (nodeAt (a .s .now)) (a .starts .now) (at-loop .loop .k) (c .loop-test .left)) (first-none isMarked (at-loop .loop .k))) ∙ at-loop .loop .inv .1
 
 pub marks-spec : {M : Type 1} → statement M
 marks-spec =
-    tie.close
-    (tie.spec
-    Inv-loop
-    μ-loop
-    loop-holds
-    mul-mark-at
-    shared-slice-read-mark-at
-    mark-at-requires
-    returns
-    add-k
-    loop-less
-    loop-again
-    returns-2)
+    tie.close (tie.spec Inv-loop μ-loop loop-holds (λ c. search needs) (λ c. search needs) (λ c κs. search needs) returns (λ c. search needs)
+    (λ c. search needs) loop-again returns-2)

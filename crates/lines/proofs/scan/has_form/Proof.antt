@@ -4,24 +4,6 @@ use Rattle.lines.specs.Files.{formOf}
 use Rattle.lines.proofs.scan.has_form.Statement.{statement}
 use Rattle.lines.proofs.scan.has_form.Tie as tie
 
-enum-told : tie.Need-enum-told
-enum-told c = search needs
-
-entry-line-requires : tie.Need-entry-line-requires
-entry-line-requires c κs = search needs
-
-enum-told-2 : tie.Need-enum-told-2
-enum-told-2 c = search needs
-
-node-line-requires : tie.Need-node-line-requires
-node-line-requires c κs = search needs
-
-enum-told-3 : tie.Need-enum-told-3
-enum-told-3 c = search needs
-
-node-line-requires-2 : tie.Need-node-line-requires-2
-node-line-requires-2 c κs = search needs
-
 returns : tie.Need-returns
 unfolding formOf
 returns c = rw (c .before .enum-told .given .1) (c .entry-line .ensures)
@@ -36,14 +18,5 @@ returns-3 c = rw (c .before .enum-told3 .given .1) (c .node-line2 .ensures)
 
 pub has-form-spec : {M : Type 1} → statement M
 has-form-spec =
-    tie.close
-    (tie.spec
-    enum-told
-    entry-line-requires
-    enum-told-2
-    node-line-requires
-    enum-told-3
-    node-line-requires-2
-    returns
-    returns-2
-    returns-3)
+    tie.close (tie.spec (λ c. search needs) (λ c κs. search needs) (λ c. search needs) (λ c κs. search needs) (λ c. search needs)
+    (λ c κs. search needs) returns returns-2 returns-3)

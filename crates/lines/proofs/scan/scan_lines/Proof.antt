@@ -31,7 +31,8 @@ room : (file : File) {limit n : ℕ} → limit ≡ limitOf file → n ≤ limit 
 room file e h g = let l = lt-of-le-of-ne h g in (l, omega (arith, limit-small file))
 
 -- the answer, with what was noted by then
-answered : (file : File) (s before noted : List ℕ) (r : Scan) → r ≡ scan file s → noted ≡ take (taken r) (startsFrom 0 (cut s)) ++ drop (taken r) before → Scanned file s before noted r
+answered : (file : File) (s before noted : List ℕ) (r : Scan) → r ≡ scan file s
+    → noted ≡ take (taken r) (startsFrom 0 (cut s)) ++ drop (taken r) before → Scanned file s before noted r
 unfolding starts
 answered file s before noted r e q = record { answer = e; few = rw e (scan-few file s); places = q }
 
@@ -41,8 +42,9 @@ Inv-loop file s starts₀ limit n₀ at₀ starts n at = At file s starts₀ lim
 abbrev μ-loop : tie.MeasureT-loop
 μ-loop file s starts₀ limit n₀ at₀ starts n at = length s - at
 
-limit-of-requires : tie.Need-limit-of-requires Inv-loop μ-loop
-limit-of-requires c κs = search needs
+-- the entry, seen from a later place
+abbrev from-limit-of : tie.After-limit-of Inv-loop μ-loop → tie.Start Inv-loop μ-loop
+from-limit-of p = p .before .before .before
 
 loop-holds : tie.Need-loop-holds Inv-loop μ-loop
 unfolding cut
@@ -54,21 +56,21 @@ same-length c = c .before .before .loop .inv .long
 returns : tie.Need-returns Inv-loop μ-loop
 unfolding scan
 returns c =
-    let a = c .before .before .before .before .before .before .args in
+    let at-loop = c .before .before in
+    let after-limit-of = at-loop .before in
+    let a = from-limit-of after-limit-of .args in
     let s = a .s .now in
-    let at = c .before .before .loop .at in
+    let at = at-loop .loop .at in
     let first = cut-at s at (c .before .loop-test .taken) (at + lineLength (drop at s)) refl in
-    let full = scan-full (formOf (a .file)) (c .before .before .before .limit-of .result) (c .before .before .loop .n) _ _ (omega arith) in
-    answered (a .file) s (a .starts .now) _ _ (sym (rw (← c .before .before .before .limit-of .ensures, ← c .before .before .loop .inv .answer, first) full)) (c .before .before .loop .inv .noted)
-
-line-end-requires : tie.Need-line-end-requires Inv-loop μ-loop
-line-end-requires c κs = search needs
+    let full = scan-full (formOf (a .file)) (after-limit-of .limit-of .result) (at-loop .loop .n) _ _ (omega arith) in
+    answered (a .file) s (a .starts .now) _ _ (sym (rw (← after-limit-of .limit-of .ensures, ← at-loop .loop .inv .answer, first) full)) (at-loop .loop .inv .noted)
 
 sub-has-form : tie.Need-sub-has-form Inv-loop μ-loop
 sub-has-form c =
-    let a = c .before .before .before .before .before .before .before .args in
+    let at-loop = c .before .before .before in
+    let a = from-limit-of (at-loop .before) .args in
     let s = a .s .now in
-    let at = c .before .before .before .loop .at in
+    let at = at-loop .loop .at in
     let inside = c .before .before .loop-test .taken in
     let end = c .line-end .result in
     let ends = c .line-end .ensures in
@@ -76,9 +78,10 @@ sub-has-form c =
 
 part-has-form-start : tie.Need-part-has-form-start Inv-loop μ-loop
 part-has-form-start c =
-    let a = c .before .before .before .before .before .before .before .args in
+    let at-loop = c .before .before .before in
+    let a = from-limit-of (at-loop .before) .args in
     let s = a .s .now in
-    let at = c .before .before .before .loop .at in
+    let at = at-loop .loop .at in
     let inside = c .before .before .loop-test .taken in
     let end = c .line-end .result in
     let ends = c .line-end .ensures in
@@ -86,81 +89,110 @@ part-has-form-start c =
 
 part-has-form-end : tie.Need-part-has-form-end Inv-loop μ-loop
 part-has-form-end c =
-    let a = c .before .before .before .before .before .before .before .args in
+    let at-loop = c .before .before .before in
+    let a = from-limit-of (at-loop .before) .args in
     let s = a .s .now in
-    let at = c .before .before .before .loop .at in
+    let at = at-loop .loop .at in
     let inside = c .before .before .loop-test .taken in
     let end = c .line-end .result in
     let ends = c .line-end .ensures in
     omega (arith, end-within s at inside end ends)
 
-has-form-requires : tie.Need-has-form-requires Inv-loop μ-loop
-has-form-requires c κs = search needs
-
 same-length-2 : tie.Need-same-length-2 Inv-loop μ-loop
-same-length-2 c = c .before .before .before .before .before .before .loop .inv .long
+same-length-2 c = let at-loop = c .before .before .before .before .before .before in at-loop .loop .inv .long
 
 returns-2 : tie.Need-returns-2 Inv-loop μ-loop
 unfolding scan
 returns-2 c =
-    let a = c .before .before .before .before .before .before .before .before .before .before .args in
+    let after-line-end = c .before .before .before in
+    let at-loop = after-line-end .before .before .before in
+    let after-limit-of = at-loop .before in
+    let a = from-limit-of after-limit-of .args in
     let s = a .s .now in
-    let at = c .before .before .before .before .before .before .loop .at in
-    let inside = c .before .before .before .before .before .loop-test .taken in
-    let end = c .before .before .before .line-end .result in
-    let ends = c .before .before .before .line-end .ensures in
+    let at = at-loop .loop .at in
+    let inside = after-line-end .before .before .loop-test .taken in
+    let end = after-line-end .line-end .result in
+    let ends = after-line-end .line-end .ensures in
     let wrong = sym (c .before .has-form .ensures) ∙ not-true _ (c .if2 .taken) in
-    let fits = room (a .file) (c .before .before .before .before .before .before .before .limit-of .ensures) (c .before .before .before .before .before .before .loop .inv .below) (c .before .before .before .before .if1 .left) in
-    let bad = scan-wrong (formOf (a .file)) (c .before .before .before .before .before .before .before .limit-of .result) (c .before .before .before .before .before .before .loop .n) _ (cut (drop end s)) (fits .0) wrong in
-    answered (a .file) s (a .starts .now) _ _ (sym (rw (← c .before .before .before .before .before .before .before .limit-of .ensures, ← c .before .before .before .before .before .before .loop .inv .answer, cut-at s at inside end ends) bad)) (c .before .before .before .before .before .before .loop .inv .noted)
+    let fits = room (a .file) (after-limit-of .limit-of .ensures) (at-loop .loop .inv .below) (after-line-end .before .if1 .left) in
+    let bad = scan-wrong (formOf (a .file)) (after-limit-of .limit-of .result) (at-loop .loop .n) _ (cut (drop end s)) (fits .0) wrong in
+    answered (a .file) s (a .starts .now) _ _
+    (sym (rw (← after-limit-of .limit-of .ensures, ← at-loop .loop .inv .answer, cut-at s at inside end ends) bad)) (at-loop .loop .inv .noted)
 
 cast-starts : tie.Need-cast-starts Inv-loop μ-loop
-cast-starts c = let fits = room (c .before .before .before .before .before .before .before .before .before .before .args .file) (c .before .before .before .before .before .before .before .limit-of .ensures) (c .before .before .before .before .before .before .loop .inv .below) (c .before .before .before .before .if1 .left) in omega (arith, fits .1, c .before .before .before .before .before .before .loop .inv .short)
+cast-starts c =
+    let else1 = c .before .before .before .before in
+    let at-loop = else1 .before .before in
+    let fits = room (from-limit-of (at-loop .before) .args .file) (at-loop .before .limit-of .ensures) (at-loop .loop .inv .below) (else1 .if1 .left) in
+    omega (arith, fits .1, at-loop .loop .inv .short)
 
 mul-starts : tie.Need-mul-starts Inv-loop μ-loop
-mul-starts c = let fits = room (c .before .before .before .before .before .before .before .before .before .before .args .file) (c .before .before .before .before .before .before .before .limit-of .ensures) (c .before .before .before .before .before .before .loop .inv .below) (c .before .before .before .before .if1 .left) in omega (arith, fits .1)
+mul-starts c =
+    let else1 = c .before .before .before .before in
+    let after-limit-of = else1 .before .before .before in
+    let fits = room (from-limit-of after-limit-of .args .file) (after-limit-of .limit-of .ensures) (else1 .before .before .loop .inv .below) (else1 .if1 .left) in
+    omega (arith, fits .1)
 
 slice-write-starts : tie.Need-slice-write-starts Inv-loop μ-loop
-slice-write-starts c = let fits = room (c .before .before .before .before .before .before .before .before .before .before .args .file) (c .before .before .before .before .before .before .before .limit-of .ensures) (c .before .before .before .before .before .before .loop .inv .below) (c .before .before .before .before .if1 .left) in omega (arith, fits .1, c .before .before .before .before .before .before .loop .inv .long, c .before .before .before .before .before .before .before .before .before .before .pre)
+slice-write-starts c =
+    let else1 = c .before .before .before .before in
+    let at-loop = else1 .before .before in
+    let s = from-limit-of (at-loop .before) in
+    let fits = room (s .args .file) (at-loop .before .limit-of .ensures) (at-loop .loop .inv .below) (else1 .if1 .left) in
+    omega (arith, fits .1, at-loop .loop .inv .long, s .pre)
 
 add-n : tie.Need-add-n Inv-loop μ-loop
-add-n c = let fits = room (c .before .before .before .before .before .before .before .before .before .before .args .file) (c .before .before .before .before .before .before .before .limit-of .ensures) (c .before .before .before .before .before .before .loop .inv .below) (c .before .before .before .before .if1 .left) in omega (arith, fits .1)
+add-n c =
+    let else1 = c .before .before .before .before in
+    let after-limit-of = else1 .before .before .before in
+    let fits = room (from-limit-of after-limit-of .args .file) (after-limit-of .limit-of .ensures) (else1 .before .before .loop .inv .below) (else1 .if1 .left) in
+    omega (arith, fits .1)
 
 loop-less : tie.Need-loop-less Inv-loop μ-loop
 loop-less c =
-    let a = c .before .before .before .before .before .before .before .before .before .before .args in
+    let after-line-end = c .before .before .before in
+    let at-loop = after-line-end .before .before .before in
+    let a = from-limit-of (at-loop .before) .args in
     let s = a .s .now in
-    let at = c .before .before .before .before .before .before .loop .at in
-    let inside = c .before .before .before .before .before .loop-test .taken in
-    let end = c .before .before .before .line-end .result in
-    let ends = c .before .before .before .line-end .ensures in
+    let at = at-loop .loop .at in
+    let inside = after-line-end .before .before .loop-test .taken in
+    let end = after-line-end .line-end .result in
+    let ends = after-line-end .line-end .ensures in
     omega (arith, end-within s at inside end ends, end-beyond s at inside end ends)
 
 loop-again : tie.Need-loop-again Inv-loop μ-loop
 unfolding startsFrom
 loop-again c =
-    let a = c .before .before .before .before .before .before .before .before .before .before .args in
+    let after-line-end = c .before .before .before in
+    let at-loop = after-line-end .before .before .before in
+    let after-limit-of = at-loop .before in
+    let entry = from-limit-of after-limit-of in
+    let a = entry .args in
     let s = a .s .now in
-    let at = c .before .before .before .before .before .before .loop .at in
-    let inside = c .before .before .before .before .before .loop-test .taken in
-    let end = c .before .before .before .line-end .result in
-    let ends = c .before .before .before .line-end .ensures in
-    let n = c .before .before .before .before .before .before .loop .n in
-    let limit = c .before .before .before .before .before .before .before .limit-of .result in
-    let fits = room (a .file) (c .before .before .before .before .before .before .before .limit-of .ensures) (c .before .before .before .before .before .before .loop .inv .below) (c .before .before .before .before .if1 .left) in
+    let at = at-loop .loop .at in
+    let inside = after-line-end .before .before .loop-test .taken in
+    let end = after-line-end .line-end .result in
+    let ends = after-line-end .line-end .ensures in
+    let n = at-loop .loop .n in
+    let limit = after-limit-of .limit-of .result in
+    let fits = room (a .file) (after-limit-of .limit-of .ensures) (at-loop .loop .inv .below) (after-line-end .before .if1 .left) in
     let good = sym (c .before .has-form .ensures) ∙ not-false _ (c .if2 .left) in
     let first = cut-at s at inside end ends in
     let long = line-long s at inside end ends in
     let next : at + length (take (end - at) (drop at s)) ≡ end = omega (arith, long, end-beyond s at inside end ends) in
-    let here : drop n (startsFrom 0 (cut s)) ≡ at ∷ startsFrom (at + length (take (end - at) (drop at s))) (cut (drop end s)) = sym (c .before .before .before .before .before .before .loop .inv .places) ∙ ap (startsFrom at) first in
+    let here : drop n (startsFrom 0 (cut s)) ≡ at ∷ startsFrom (at + length (take (end - at) (drop at s))) (cut (drop end s)) = sym
+    (at-loop .loop .inv .places) ∙ ap (startsFrom at) first in
     record {
       within = end-within s at inside end ends;
-      short = omega (arith, c .before .before .before .before .before .before .loop .inv .short, form-width (a .file) _ good, width-small (a .file), long);
+      short = omega
+          (arith, at-loop .loop .inv .short, form-width (a .file) _ good, width-small (a .file), long);
       below = omega (arith, fits .0);
-      long = length-set (c .before .before .before .before .before .before .loop .starts) n at ∙ c .before .before .before .before .before .before .loop .inv .long;
-      answer = sym (scan-more (formOf (a .file)) limit n _ _ (fits .0) good) ∙ (sym (ap (scanFrom (formOf (a .file)) limit n) first) ∙ c .before .before .before .before .before .before .loop .inv .answer);
+      long = length-set
+          (at-loop .loop .starts) n at ∙ at-loop .loop .inv .long;
+      answer = sym (scan-more (formOf (a .file)) limit n _ _ (fits .0) good) ∙
+          (sym (ap (scanFrom (formOf (a .file)) limit n) first) ∙ at-loop .loop .inv .answer);
       places = rw (add-one, drop-next n _ _ _ here, next);
-      noted = rw (add-one, c .before .before .before .before .before .before .loop .inv .noted) (note-more n _ (a .starts .now) at _ here (omega (arith, fits .1, c .before .before .before .before .before .before .before .before .before .before .pre)));
+      noted = rw (add-one, at-loop .loop .inv .noted) (note-more n _ (a .starts .now) at _ here (omega (arith, fits .1, entry .pre)));
     }
 
 same-length-3 : tie.Need-same-length-3 Inv-loop μ-loop
@@ -169,33 +201,17 @@ same-length-3 c = c .before .loop .inv .long
 returns-3 : tie.Need-returns-3 Inv-loop μ-loop
 unfolding scan
 returns-3 c =
-    let a = c .before .before .before .before .before .args in
+    let at-loop = c .before in
+    let after-limit-of = at-loop .before in
+    let a = from-limit-of after-limit-of .args in
     let s = a .s .now in
-    let over = cut-none s (c .before .loop .at) (c .loop-test .left) in
-    answered (a .file) s (a .starts .now) _ _ (sym (rw (← c .before .before .limit-of .ensures, ← c .before .loop .inv .answer, over) (scan-end (formOf (a .file)) (c .before .before .limit-of .result) (c .before .loop .n)))) (c .before .loop .inv .noted)
+    let over = cut-none s (at-loop .loop .at) (c .loop-test .left) in
+    answered (a .file) s (a .starts .now) _ _
+    (sym (rw (← after-limit-of .limit-of .ensures, ← at-loop .loop .inv .answer, over)
+    (scan-end (formOf (a .file)) (after-limit-of .limit-of .result) (at-loop .loop .n)))) (at-loop .loop .inv .noted)
 
 pub scan-lines-spec : {M : Type 1} → statement M
 scan-lines-spec =
-    tie.close
-    (tie.spec
-    Inv-loop
-    μ-loop
-    limit-of-requires
-    loop-holds
-    same-length
-    returns
-    line-end-requires
-    sub-has-form
-    part-has-form-start
-    part-has-form-end
-    has-form-requires
-    same-length-2
-    returns-2
-    cast-starts
-    mul-starts
-    slice-write-starts
-    add-n
-    loop-less
-    loop-again
-    same-length-3
-    returns-3)
+    tie.close (tie.spec Inv-loop μ-loop (λ c κs. search needs) loop-holds same-length returns (λ c κs. search needs) sub-has-form part-has-form-start
+    part-has-form-end (λ c κs. search needs) same-length-2 returns-2 cast-starts mul-starts slice-write-starts add-n loop-less loop-again
+    same-length-3 returns-3)

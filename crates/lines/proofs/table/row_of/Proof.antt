@@ -7,12 +7,6 @@ use Rattle.lines.specs.Theorems.Lists.{getD-any}
 use Rattle.lines.proofs.table.row_of.Statement.{statement}
 use Rattle.lines.proofs.table.row_of.Tie as tie
 
-mul-result : tie.Need-mul-result
-mul-result c = search needs
-
-array-copy-out-result : tie.Need-array-copy-out-result
-array-copy-out-result c = search needs
-
 returns : tie.Need-returns
 unfolding rowOf rows
 returns c = getD-any rows (c .before .before .args .operation) _ _ (search needs)
@@ -22,4 +16,4 @@ unfolding rowOf rows
 returns-2 c = sym (List·getD-eq-default rows _ (c .if1 .left))
 
 pub row-of-spec : {M : Type 1} → statement M
-row-of-spec = tie.close (tie.spec mul-result array-copy-out-result returns returns-2)
+row-of-spec = tie.close (tie.spec (λ c. search needs) (λ c. search needs) returns returns-2)

@@ -10,23 +10,11 @@ use Rattle.lines.specs.Texts.{textAt}
 use Rattle.lines.proofs.texts.text_byte.Statement.{statement}
 use Rattle.lines.proofs.texts.text_byte.Tie as tie
 
-text-len-requires : tie.Need-text-len-requires
-text-len-requires c κs = search needs
-
 returns : tie.Need-returns
-returns c = let t = textAt (c .before .before .before .args .s .now) (c .before .before .before .args .at) in sym (List·getD-eq-default t 0 (omega arith))
-
-add-pair-at : tie.Need-add-pair-at
-add-pair-at c = search needs
-
-mul-pair-at : tie.Need-mul-pair-at
-mul-pair-at c = search needs
-
-add-pair-at-2 : tie.Need-add-pair-at-2
-add-pair-at-2 c = search needs
-
-pair-at-requires : tie.Need-pair-at-requires
-pair-at-requires c κs = search needs
+returns c =
+    let s = c .before .before .before in
+    let t = textAt (s .args .s .now) (s .args .at) in
+    sym (List·getD-eq-default t 0 (omega arith))
 
 returns-2 : tie.Need-returns-2
 unfolding textAt
@@ -37,12 +25,4 @@ returns-2 c =
 
 pub text-byte-spec : {M : Type 1} → statement M
 text-byte-spec =
-    tie.close
-    (tie.spec
-    text-len-requires
-    returns
-    add-pair-at
-    mul-pair-at
-    add-pair-at-2
-    pair-at-requires
-    returns-2)
+    tie.close (tie.spec (λ c κs. search needs) returns (λ c. search needs) (λ c. search needs) (λ c. search needs) (λ c κs. search needs) returns-2)

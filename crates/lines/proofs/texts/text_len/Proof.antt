@@ -6,12 +6,9 @@ use Rattle.lines.specs.Texts.{textAt}
 use Rattle.lines.proofs.texts.text_len.Statement.{statement}
 use Rattle.lines.proofs.texts.text_len.Tie as tie
 
-pair-at-requires : tie.Need-pair-at-requires
-pair-at-requires c κs = search needs
-
 returns : tie.Need-returns
 unfolding textAt
 returns c = c .pair-at .ensures ∙ sym (length-bytes _ _ _)
 
 pub text-len-spec : {M : Type 1} → statement M
-text-len-spec = tie.close (tie.spec pair-at-requires returns)
+text-len-spec = tie.close (tie.spec (λ c κs. search needs) returns)

@@ -18,56 +18,40 @@ Inv-loop out₀ pos s at n p₀ j₀ out p j = (j ≤ n) × (p ≡ pos + 2 * j) 
 abbrev μ-loop : tie.MeasureT-loop
 μ-loop out₀ pos s at n p₀ j₀ out p j = n - j
 
-text-len-requires : tie.Need-text-len-requires Inv-loop μ-loop
-text-len-requires c κs = search needs
+-- the entry, seen from a later place
+abbrev from-loop : tie.At-loop Inv-loop μ-loop → tie.Start Inv-loop μ-loop
+from-loop p = p .before .before .before .before
 
 loop-holds : tie.Need-loop-holds Inv-loop μ-loop
 unfolding encode
 loop-holds c = (omega arith, omega arith, refl, refl)
 
-text-byte-requires : tie.Need-text-byte-requires Inv-loop μ-loop
-text-byte-requires c κs = search needs
-
 put-byte-requires : tie.Need-put-byte-requires Inv-loop μ-loop
 put-byte-requires c κs = omega arith
 
-add-p : tie.Need-add-p Inv-loop μ-loop
-add-p c = search needs
-
-add-j : tie.Need-add-j Inv-loop μ-loop
-add-j c = search needs
-
-loop-less : tie.Need-loop-less Inv-loop μ-loop
-loop-less c = search needs
-
 loop-again : tie.Need-loop-again Inv-loop μ-loop
 loop-again c =
-    let a = c .before .before .before .before .before .before .before .before .before .before .args in
-    let l = c .before .before .before .before .before .before .loop in
-    (omega arith, omega arith, c .before .before .put-byte .kept .0 ∙ l .inv .2, put-next (a .out .now) (a .pos) (textAt (a .s .now) (a .at)) (l .j) (omega arith) (l .inv .3) (l .p) (l .inv .1) (rw (← c .before .before .before .text-byte .ensures) (c .before .before .put-byte .ensures)))
+    let after-put-byte = c .before .before in
+    let at-loop = after-put-byte .before .before .before .before in
+    let a = from-loop at-loop .args in
+    let l = at-loop .loop in (
+      omega arith,
+      omega arith,
+      after-put-byte .put-byte .kept .0 ∙ l .inv .2,
+      put-next (a .out .now) (a .pos) (textAt (a .s .now) (a .at)) (l .j)
+          (omega arith) (l .inv .3) (l .p) (l .inv .1) (rw (← after-put-byte .before .text-byte .ensures) (after-put-byte .put-byte .ensures)),
+    )
 
 same-length : tie.Need-same-length Inv-loop μ-loop
 same-length c = c .before .loop .inv .2
 
 returns : tie.Need-returns Inv-loop μ-loop
 returns c =
-    let a = c .before .before .before .before .before .args in
+    let a = from-loop (c .before) .args in
     let l = c .before .loop in
     l .inv .3 ∙ ap (λ (x : List ℕ). sets (a .out .now) (a .pos) (encode x)) (take-all (l .j) (textAt (a .s .now) (a .at)) (omega arith))
 
 pub put-text-spec : {M : Type 1} → statement M
 put-text-spec =
-    tie.close
-    (tie.spec
-    Inv-loop
-    μ-loop
-    text-len-requires
-    loop-holds
-    text-byte-requires
-    put-byte-requires
-    add-p
-    add-j
-    loop-less
-    loop-again
-    same-length
-    returns)
+    tie.close (tie.spec Inv-loop μ-loop (λ c κs. search needs) loop-holds (λ c κs. search needs) put-byte-requires (λ c. search needs)
+    (λ c. search needs) (λ c. search needs) loop-again same-length returns)

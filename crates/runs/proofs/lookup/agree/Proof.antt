@@ -5,33 +5,6 @@ use Rattle.lines.specs.Texts.{bytesFrom, textAt}
 use Rattle.runs.proofs.lookup.agree.Statement.{statement}
 use Rattle.runs.proofs.lookup.agree.Tie as tie
 
-enum-known-source : tie.Need-enum-known-source
-enum-known-source c = search needs
-
-agrees-with-requires : tie.Need-agrees-with-requires
-agrees-with-requires c κs = search needs
-
-enum-known-source-2 : tie.Need-enum-known-source-2
-enum-known-source-2 c = search needs
-
-agrees-with-requires-2 : tie.Need-agrees-with-requires-2
-agrees-with-requires-2 c κs = search needs
-
-enum-told : tie.Need-enum-told
-enum-told c = search needs
-
-sub-agrees-with : tie.Need-sub-agrees-with
-sub-agrees-with c = search needs
-
-part-agrees-with-start : tie.Need-part-agrees-with-start
-part-agrees-with-start c = search needs
-
-part-agrees-with-end : tie.Need-part-agrees-with-end
-part-agrees-with-end c = search needs
-
-agrees-with-requires-3 : tie.Need-agrees-with-requires-3
-agrees-with-requires-3 c κs = search needs
-
 returns : tie.Need-returns
 returns c = rw (c .before .before .source .given .1) (c .agrees-with .ensures)
 
@@ -44,17 +17,5 @@ returns-3 c = rw (c .before .before .enum-told .given .1) (c .agrees-with3 .ensu
 
 pub agree-spec : {M : Type 1} → statement M
 agree-spec =
-    tie.close
-    (tie.spec
-    enum-known-source
-    agrees-with-requires
-    enum-known-source-2
-    agrees-with-requires-2
-    enum-told
-    sub-agrees-with
-    part-agrees-with-start
-    part-agrees-with-end
-    agrees-with-requires-3
-    returns
-    returns-2
-    returns-3)
+    tie.close (tie.spec (λ c. search needs) (λ c κs. search needs) (λ c. search needs) (λ c κs. search needs) (λ c. search needs) (λ c. search needs)
+    (λ c. search needs) (λ c. search needs) (λ c κs. search needs) returns returns-2 returns-3)

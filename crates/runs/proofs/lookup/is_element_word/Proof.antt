@@ -8,59 +8,35 @@ use Rattle.runs.proofs.Lookups.{element-line, element-no-line, element-
 use Rattle.runs.proofs.lookup.is_element_word.Statement.{statement}
 use Rattle.runs.proofs.lookup.is_element_word.Tie as tie
 
-cast-n : tie.Need-cast-n
-cast-n c = search needs
+-- the entry, seen from a later place
+abbrev from-shared-slice-known4 : tie.After-shared-slice-known4 → tie.Start
+from-shared-slice-known4 p = p .before .before .before .before
 
 returns : tie.Need-returns
-returns c = let a = c .before .before .before .before .before .before .args in element-no-line (a .prog .now) (a .entries .now) (a .master .now) (a .nodes .now) (a .word) (c .before .if1 .taken) (c .if2 .taken)
-
-mul-kind-at : tie.Need-mul-kind-at
-mul-kind-at c = search needs
-
-shared-slice-read-kind-at : tie.Need-shared-slice-read-kind-at
-shared-slice-read-kind-at c = search needs
-
-kind-at-requires : tie.Need-kind-at-requires
-kind-at-requires c κs = search needs
-
-is-element-requires : tie.Need-is-element-requires
-is-element-requires c κs = search needs
+returns c =
+    let a = from-shared-slice-known4 (c .before .before) .args in
+    element-no-line (a .prog .now) (a .entries .now) (a .master .now) (a .nodes .now) (a .word) (c .before .if1 .taken) (c .if2 .taken)
 
 returns-2 : tie.Need-returns-2
-returns-2 c = let a = c .before .before .before .before .before .before .before .before .before .args in c .is-element .ensures ∙ ap isElement (c .before .kind-at .ensures) ∙ element-line (a .prog .now) (a .entries .now) (a .master .now) (a .nodes .now) (a .word) (c .before .before .before .before .if1 .taken) (c .before .before .before .if2 .left)
-
-cast-e : tie.Need-cast-e
-cast-e c = search needs
+returns-2 c =
+    let else2 = c .before .before .before in
+    let a = from-shared-slice-known4 (else2 .before .before) .args in
+    c .is-element .ensures ∙ ap isElement (c .before .kind-at .ensures) ∙ element-line (a .prog .now) (a .entries .now) (a .master .now)
+    (a .nodes .now) (a .word) (else2 .before .if1 .taken) (else2 .if2 .left)
 
 returns-3 : tie.Need-returns-3
-returns-3 c = let a = c .before .before .before .before .before .before .args in element-no-entry (a .prog .now) (a .entries .now) (a .master .now) (a .nodes .now) (a .word) (c .before .if1 .left) (c .if3 .taken)
-
-mul-operation-at : tie.Need-mul-operation-at
-mul-operation-at c = search needs
-
-shared-slice-read-operation-at : tie.Need-shared-slice-read-operation-at
-shared-slice-read-operation-at c = search needs
-
-operation-at-requires : tie.Need-operation-at-requires
-operation-at-requires c κs = search needs
+returns-3 c =
+    let a = from-shared-slice-known4 (c .before .before) .args in
+    element-no-entry (a .prog .now) (a .entries .now) (a .master .now) (a .nodes .now) (a .word) (c .before .if1 .left) (c .if3 .taken)
 
 returns-4 : tie.Need-returns-4
-returns-4 c = let a = c .before .before .before .before .before .before .before .before .args in ap (λ (b : ℕ). eqb b 4) (c .operation-at .ensures) ∙ element-entry (a .prog .now) (a .entries .now) (a .master .now) (a .nodes .now) (a .word) (c .before .before .before .if1 .left) (c .before .before .if3 .left)
+returns-4 c =
+    let else1 = c .before .before .before in
+    let a = from-shared-slice-known4 (else1 .before) .args in
+    ap (λ (b : ℕ). eqb b 4) (c .operation-at .ensures) ∙ element-entry (a .prog .now) (a .entries .now) (a .master .now) (a .nodes .now) (a .word)
+    (else1 .if1 .left) (c .before .before .if3 .left)
 
 pub is-element-word-spec : {M : Type 1} → statement M
 is-element-word-spec =
-    tie.close
-    (tie.spec
-    cast-n
-    returns
-    mul-kind-at
-    shared-slice-read-kind-at
-    kind-at-requires
-    is-element-requires
-    returns-2
-    cast-e
-    returns-3
-    mul-operation-at
-    shared-slice-read-operation-at
-    operation-at-requires
-    returns-4)
+    tie.close (tie.spec (λ c. search needs) returns (λ c. search needs) (λ c. search needs) (λ c κs. search needs) (λ c κs. search needs) returns-2
+    (λ c. search needs) returns-3 (λ c. search needs) (λ c. search needs) (λ c κs. search needs) returns-4)

@@ -12,28 +12,21 @@ use Rattle.runs.proofs.PutWords.{kept-below}
 use Rattle.runs.proofs.put.put_contents.Statement.{statement}
 use Rattle.runs.proofs.put.put_contents.Tie as tie
 
-fill-requires : tie.Need-fill-requires
-fill-requires c κs = search needs
-
-sub-copy : tie.Need-sub-copy
-sub-copy c = search needs
-
-add-copy : tie.Need-add-copy
-add-copy c = search needs
-
 copy-requires : tie.Need-copy-requires
-copy-requires c κs = let l = c .before .before .before .fill .kept .0 in (omega arith, inr (omega arith))
-
-same-length : tie.Need-same-length
-same-length c = search needs
+copy-requires c κs =
+    let after-fill = c .before .before .before .before .before in
+    let l = after-fill .fill .kept .0 in
+    (omega arith, inr (omega arith))
 
 returns : tie.Need-returns
 returns c =
-    let a = c .before .before .before .before .before .before .before .before .before .args in
+    let after-fill = c .before .before .before .before .before .before .before .before in
+    let a = after-fill .before .before .before .args in
     let w = a .work .now in
-    let f = kept-below w (a .top) (replicate 1 0) (c .before .before .before .before .before .before .fill .ensures) (omega arith) in
-    c .before .before .copy .ensures ∙ ap₂ (λ (x y : List ℕ). putAt x (a .top + 1) y) (c .before .before .before .before .before .before .fill .ensures) (frame-part w (c .before .before .before .before .before .before .fill .last .0) (a .top) (a .view) (a .len - 1) f (omega arith))
+    let f = kept-below w (a .at .top) (replicate 1 0) (after-fill .fill .ensures) (omega arith) in
+    c .before .before .copy .ensures ∙ ap₂ (λ (x y : List ℕ). putAt x (a .at .top + 1) y) (after-fill .fill .ensures)
+    (frame-part w (after-fill .fill .last .0) (a .at .top) (a .at .view) (a .at .len - 1) f (omega arith))
 
 pub put-contents-spec : {M : Type 1} → statement M
 put-contents-spec =
-    tie.close (tie.spec fill-requires sub-copy add-copy copy-requires same-length returns)
+    tie.close (tie.spec (λ c κs. search needs) (λ c. search needs) (λ c. search needs) copy-requires (λ c. search needs) returns)

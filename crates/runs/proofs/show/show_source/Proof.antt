@@ -9,11 +9,10 @@ use Rattle.runs.proofs.show.show_source.Tie as tie
 copy-requires : tie.Need-copy-requires
 copy-requires c κs = (omega arith, inr (omega arith))
 
-same-length : tie.Need-same-length
-same-length c = search needs
-
 returns : tie.Need-returns
-returns c = let a = c .before .before .before .before .before .args in λ made. copied made (a .work .now) (a .top) (a .start) (a .len) (c .before .before .copy .ensures) (omega arith) (omega arith) (omega arith)
+returns c =
+    let a = (c .before .before .before .before .before) .args in
+    λ made. copied made (a .work .now) (a .at .top) (a .at .start) (a .at .len) (c .before .before .copy .ensures) (omega arith) (omega arith) (omega arith)
 
 pub show-source-spec : {M : Type 1} → statement M
-show-source-spec = tie.close (tie.spec copy-requires same-length returns)
+show-source-spec = tie.close (tie.spec copy-requires (λ c. search needs) returns)

@@ -4,11 +4,8 @@ use borrow.Author.Needs.{needs}
 use Rattle.runs.proofs.tree.inside_each.Statement.{statement}
 use Rattle.runs.proofs.tree.inside_each.Tie as tie
 
-sub-t3 : tie.Need-sub-t3
-sub-t3 c = search needs
-
 returns : tie.Need-returns
-returns c = (record { four = c .before .before .pre .0 .four; places = c .before .before .pre .0 .places }, rw sub-one)
+returns c = let s = c .before .before in (record { four = s .pre .0 .four; places = s .pre .0 .places }, rw sub-one)
 
 pub inside-each-spec : {M : Type 1} → statement M
-inside-each-spec = tie.close (tie.spec sub-t3 returns)
+inside-each-spec = tie.close (tie.spec (λ c. search needs) returns)

@@ -22,18 +22,6 @@ unfolding stands
 told-none true = refl
 told-none false = refl
 
-class-of-requires : tie.Need-class-of-requires
-class-of-requires c κs = search needs
-
-enum-told : tie.Need-enum-told
-enum-told c = search needs
-
-enum-told-2 : tie.Need-enum-told-2
-enum-told-2 c = search needs
-
-enum-told-3 : tie.Need-enum-told-3
-enum-told-3 c = search needs
-
 returns : tie.Need-returns
 unfolding stands
 returns c = rw (← (c .before .before .class-of .ensures), c .enum-told .given .1) (told-not (c .before .before .before .args .test))
@@ -49,4 +37,4 @@ returns-3 c = rw (← (c .before .before .class-of .ensures), c .enum-told3 .giv
 pub is-asked-spec : {M : Type 1} → statement M
 is-asked-spec =
     tie.close
-    (tie.spec class-of-requires enum-told enum-told-2 enum-told-3 returns returns-2 returns-3)
+    (tie.spec (λ c κs. search needs) (λ c. search needs) (λ c. search needs) (λ c. search needs) returns returns-2 returns-3)

@@ -14,6 +14,10 @@ Inv-loop byte bytes k₀ k = (k ≤ k₀) × (among byte (slotsOf bytes k) ≡ a
 abbrev μ-loop : tie.MeasureT-loop
 μ-loop byte bytes k₀ k = k
 
+-- the entry, seen from a later place
+abbrev from-loop : tie.At-loop Inv-loop μ-loop → tie.Start Inv-loop μ-loop
+from-loop p = p .before .before
+
 loop-holds : tie.Need-loop-holds Inv-loop μ-loop
 loop-holds c = (omega arith, refl)
 
@@ -21,31 +25,30 @@ sub-k : tie.Need-sub-k Inv-loop μ-loop
 sub-k c = omega arith
 
 array-read-if1 : tie.Need-array-read-if1 Inv-loop μ-loop
-array-read-if1 c = omega (arith, c .before .before .before .pre .four, c .before .before .before .pre .places)
+array-read-if1 c = let s = from-loop (c .before) in omega (arith, s .pre .four, s .pre .places)
 
 returns : tie.Need-returns Inv-loop μ-loop
-returns c = let a = c .before .before .before .before .args in sym (bound-here (a .byte) (a .room .bytes) (c .before .before .loop .k) (c .before .loop-test .taken) (c .if1 .taken)) ∙ c .before .before .loop .inv .1
+returns c =
+    let at-loop = c .before .before in
+    let a = from-loop at-loop .args in
+    sym (bound-here (a .byte) (a .room .bytes) (at-loop .loop .k) (c .before .loop-test .taken) (c .if1 .taken)) ∙ at-loop .loop .inv .1
 
 loop-less : tie.Need-loop-less Inv-loop μ-loop
 loop-less c = omega arith
 
 loop-again : tie.Need-loop-again Inv-loop μ-loop
-loop-again c = let a = c .before .before .before .before .args in (omega arith, bound-further (a .byte) (a .room .bytes) (c .before .before .loop .k) (c .before .loop-test .taken) (c .if1 .left) ∙ c .before .before .loop .inv .1)
+loop-again c =
+    let at-loop = c .before .before in
+    let a = from-loop at-loop .args in
+    (omega arith, bound-further (a .byte) (a .room .bytes) (at-loop .loop .k) (c .before .loop-test .taken) (c .if1 .left) ∙ at-loop .loop .inv .1)
 
 returns-2 : tie.Need-returns-2 Inv-loop μ-loop
 unfolding slotsOf among
-returns-2 c = let z : c .before .loop .k ≡ 0 = omega (arith, c .loop-test .left) in rw z at (c .before .loop .inv .1)
+returns-2 c =
+    let at-loop = c .before in
+    let z : c .before .loop .k ≡ 0 = omega (arith, c .loop-test .left) in
+    rw z at (at-loop .loop .inv .1)
 
 pub is-bound-spec : {M : Type 1} → statement M
 is-bound-spec =
-    tie.close
-    (tie.spec
-    Inv-loop
-    μ-loop
-    loop-holds
-    sub-k
-    array-read-if1
-    returns
-    loop-less
-    loop-again
-    returns-2)
+    tie.close (tie.spec Inv-loop μ-loop loop-holds sub-k array-read-if1 returns loop-less loop-again returns-2)

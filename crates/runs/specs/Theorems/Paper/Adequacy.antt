@@ -68,7 +68,8 @@ putting-back-agrees entries X ls edited o J =
       apart = suspect (printed-alike entries X ls edited o J);
     }
   where
-    whole : Alike strictGuard X ls edited → clashOf X ls edited ≡ Faultless → (S : Sequence) × (putBackBy strictGuard X ls edited ≡ got (S, [])) × (unlocked S ≡ sequence (handedBackBy X ls edited))
+    whole : Alike strictGuard X ls edited → clashOf X ls edited ≡ Faultless
+        → (S : Sequence) × (putBackBy strictGuard X ls edited ≡ got (S, [])) × (unlocked S ≡ sequence (handedBackBy X ls edited))
     whole (bothPut S p q c) h = (S, p, q)
     whole (bothFail p n c) h = let z : _≡_ {A = ℕ} 0 1 = cc in absurd (omega arith)
 
@@ -80,7 +81,8 @@ putting-back-agrees entries X ls edited o J =
     fails (bothPut S p q c) h = let r = strict-yields (written X) [] (sequence ls) (sequence edited) (S, []) p in let z : _≡_ {A = ℕ} 0 1 = cc in absurd (omega arith)
     fails (bothFail p n c) h = (n, c)
 
-    suspect : Alike guard X ls edited ⊎ Suspect ls edited o → (r : Sequence × PairContext) → putBackBy guard X ls edited ≡ got r → (n : ℕ) → clashOf X ls edited ≡ Fault n → Suspect ls edited o
+    suspect : Alike guard X ls edited ⊎ Suspect ls edited o → (r : Sequence × PairContext) → putBackBy guard X ls edited ≡ got r
+        → (n : ℕ) → clashOf X ls edited ≡ Fault n → Suspect ls edited o
     suspect (inr x) r p n c = x
     suspect (inl (bothPut S q u d)) r p n c = let z : _≡_ {A = ℕ} 0 1 = cc in absurd (omega arith)
     suspect (inl (bothFail q m d)) r p n c = let z : _≡_ {A = ℕ} 0 1 = cc in absurd (omega arith)

@@ -126,7 +126,8 @@ module _ (entries : List Entry) (X : Transformation) (ls edited : List Line) (o 
         let fine = subst⁻¹ (λ (v : Value). FineAlong look permit v rs) (e ∙ sym (append-nil (flat 0 f))) (fine-along look permit 0 f [] rs F K tt) in
         bothPut (brush look f rs) (rw (p, q) r) (handed f F e fine) (no-clash-fine s all (no-clash fine))
     ended f F e T p q (failed r n c) =
-        let m = clash-place n (ap isClash (standingFor-is (oneMaster ls) X o (J .shows) edited n ∙ ap (λ (z : Standing). z ⋓ lock n (o .compared)) (sym (unit-right (gathered n (o .value) ups)))) ∙ c) in
+        let m = clash-place n (ap isClash (standingFor-is (oneMaster ls) X o (J .shows) edited n
+        ∙ ap (λ (z : Standing). z ⋓ lock n (o .compared)) (sym (unit-right (gathered n (o .value) ups)))) ∙ c) in
         bothFail (rw (p, q) r) (m .0) (m .1)
 
     pub guarded-alike : Alike g X ls edited
@@ -134,15 +135,19 @@ module _ (entries : List Entry) (X : Transformation) (ls edited : List Line) (o 
     guarded-alike =
         let t = master-grown ls (J .few) (J .bounds) in
         let f = t .trees in
-        let A = puts-backward look permit watch g G X wholeRoom ((program-placed entries X (J .program)) .sound) [] refl tt f (t .right) o (ap (show look X []) (sym (t .flatIs)) ∙ J .shows) W in
+        let A = puts-backward look permit watch g G X wholeRoom ((program-placed entries X (J .program)) .sound)
+        [] refl tt f (t .right) o (ap (show look X []) (sym (t .flatIs)) ∙ J .shows) W in
         let e = A .flatIs ∙ sym (append-nil (flat 0 (A .g))) in
         let R = edited-read (oneMaster ls) 0 0 (o .value) edited (subst⁻¹ AllNumbering e (right-numbering look 0 (A .g) [] (A .right) tt)) (J .same) (J .free) (J .formed) in
         let fine = along-fine look permit 0 (A .g) [] ups (A .right) (subst (λ (v : Value). FineAlong look permit v ups) e (R .fine permit P)) in
         ended f (t .right) (t .flatIs) (brush look (A .g) ups)
         (t .read ∙ paint-unmarked look (marksIn all) (one-unmarked 0 ls (unmarked-lines ls (J .plain))) f)
         (sequence-drawn look (A .g) edited (A .right) (subst (λ (v : Value). Beside look v edited) (A .flatIs) (R .beside))
-        ∙ drawn-brush look (λ u. u) (λ S. S) refl (λ t u o S. refl) (λ t w o K S. refl) 0 (A .g) [] edited ups (A .right) (subst (λ (v : Value). InkedAll look (λ u. u) v edited ups) e (R .inked)))
-        (subst⁻¹ (λ (v : Value). Ends look permit [] none f (putBack look X [] v ups []) (backward g (written X) [] (paint look noMarks f) (brush look (A .g) ups)) (said [] o ups [])) (t .flatIs) (A .back ups [] fine tt))
+        ∙ drawn-brush look (λ u. u) (λ S. S) refl (λ t u o S. refl) (λ t w o K S. refl) 0 (A .g)
+        [] edited ups (A .right) (subst (λ (v : Value). InkedAll look (λ u. u) v edited ups) e (R .inked)))
+        (subst⁻¹ (λ (v : Value). Ends look permit [] none f (putBack look X [] v ups [])
+        (backward g (written X) [] (paint look noMarks f) (brush look (A .g) ups)) (said [] o ups []))
+        (t .flatIs) (A .back ups [] fine tt))
 
 -- ## Fig. 7's guard
 
@@ -210,5 +215,7 @@ module _ (entries : List Entry) (X : Transformation) (ls edited : List Line) (o 
             place = i;
             copy = c;
             compared = w;
-            edit = unkept-edit (look .bytes n) ((lineAt edited i) .mark) ((lineAt edited i) .text) (ap (isKept (look .bytes n)) (sym (brought-at look (o .value) edited n i c)) ∙ k);
+            edit =
+                unkept-edit (look .bytes n) ((lineAt edited i) .mark) ((lineAt edited i) .text)
+                (ap (isKept (look .bytes n)) (sym (brought-at look (o .value) edited n i c)) ∙ k);
           })

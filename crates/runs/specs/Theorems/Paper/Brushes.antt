@@ -112,7 +112,13 @@ unfolding gathered
 gathered-flat n d nil ss = refl
 gathered-flat n d (txt o r) ss = rw (gathered-flat n d r (restOf ss))
 gathered-flat n d (elm o k r) ss =
-    rw (gathered-cut n (flat (suc d) k) (flat d r) (restOf ss), gathered-take n (flat (suc d) k) (restOf ss), length-flat (suc d) k, gathered-flat n (suc d) k (restOf ss), gathered-flat n d r (drop (size k) (restOf ss)))
+    rw (
+      gathered-cut n (flat (suc d) k) (flat d r) (restOf ss),
+      gathered-take n (flat (suc d) k) (restOf ss),
+      length-flat (suc d) k,
+      gathered-flat n (suc d) k (restOf ss),
+      gathered-flat n d r (drop (size k) (restOf ss)),
+    )
 
 -- ## Clashes in a merge
 
@@ -188,7 +194,8 @@ module _ (look : Lookup) (permit : Permit) where
     whole : mg (brush look f ss) (brush look f ts) ≡ got (brush look f (merged ss ts)) → Fine permit f (merged ss ts) → Merging f ss ts
     torn : mg (brush look f ss) (brush look f ts) ≡ fail → (n : ℕ) → isClash (told n f ss ⋓ told n f ts) ≡ true → Merging f ss ts
 
-  text-merging : (o : Origin) (r : Trees) (s t : List Standing) → FineText permit o (firstOf s) → FineText permit o (firstOf t) → Merging r (restOf s) (restOf t) → Merging (txt o r) s t
+  text-merging : (o : Origin) (r : Trees) (s t : List Standing) → FineText permit o (firstOf s)
+      → FineText permit o (firstOf t) → Merging r (restOf s) (restOf t) → Merging (txt o r) s t
   unfolding isFrom
   text-merging (master n) r s t p q m = go (texts (look .bytes n) (firstOf s) (firstOf t) n (p .0) (q .0)) m
     where
@@ -215,7 +222,8 @@ module _ (look : Lookup) (permit : Permit) where
   element-merging o k r s t p q a b = go (own o p q) a b
     where
       own : (o : Origin) → FineElement permit o (firstOf s) → FineElement permit o (firstOf t)
-          → (mgElement (fromOrigin o) (elementFor o (firstOf s)) (elementFor o (firstOf t)) ≡ got (elementFor o (firstOf s ⋓ firstOf t))) × FineElement permit o (firstOf s ⋓ firstOf t)
+          → (mgElement (fromOrigin o) (elementFor o (firstOf s)) (elementFor o (firstOf t)) ≡ got (elementFor o (firstOf s ⋓ firstOf t)))
+          × FineElement permit o (firstOf s ⋓ firstOf t)
       own (master n) p q = elements (firstOf s) (firstOf t) n p q
       own (program e b t) p q = (refl, tt)
 
@@ -227,14 +235,17 @@ module _ (look : Lookup) (permit : Permit) where
       behind x y a b d g h =
           ap isClash (merge-swap x (a ⋓ b) y (d ⋓ g)) ∙ clash-joins (x ⋓ y) ((a ⋓ b) ⋓ (d ⋓ g)) (ap isClash (merge-swap a b d g) ∙ clash-joins (a ⋓ d) (b ⋓ g) h)
 
-      go : (mgElement (fromOrigin o) (elementFor o (firstOf s)) (elementFor o (firstOf t)) ≡ got (elementFor o (firstOf s ⋓ firstOf t))) × FineElement permit o (firstOf s ⋓ firstOf t)
+      go : (mgElement (fromOrigin o) (elementFor o (firstOf s)) (elementFor o (firstOf t)) ≡ got (elementFor o (firstOf s ⋓ firstOf t)))
+          × FineElement permit o (firstOf s ⋓ firstOf t)
           → Merging k (restOf s) (restOf t) → Merging r (drop (size k) (restOf s)) (drop (size k) (restOf t)) → Merging (elm o k r) s t
       go (e, c) (torn e′ i h) b =
           torn (rw (sameText-refl (bytesOf look o), sameFrom-refl o, e, e′)) i
-          (front (only (isFrom i o) (firstOf s)) (only (isFrom i o) (firstOf t)) (told i k (restOf s)) (told i r (drop (size k) (restOf s))) (told i k (restOf t)) (told i r (drop (size k) (restOf t))) h)
+          (front (only (isFrom i o) (firstOf s)) (only (isFrom i o) (firstOf t)) (told i k (restOf s))
+          (told i r (drop (size k) (restOf s))) (told i k (restOf t)) (told i r (drop (size k) (restOf t))) h)
       go (e, c) (whole e′ f) (torn e″ i h) =
           torn (rw (sameText-refl (bytesOf look o), sameFrom-refl o, e, e′, e″)) i
-          (behind (only (isFrom i o) (firstOf s)) (only (isFrom i o) (firstOf t)) (told i k (restOf s)) (told i r (drop (size k) (restOf s))) (told i k (restOf t)) (told i r (drop (size k) (restOf t))) h)
+          (behind (only (isFrom i o) (firstOf s)) (only (isFrom i o) (firstOf t)) (told i k (restOf s))
+          (told i r (drop (size k) (restOf s))) (told i k (restOf t)) (told i r (drop (size k) (restOf t))) h)
       go (e, c) (whole e′ f) (whole e″ g) =
           whole (rw (sameText-refl (bytesOf look o), sameFrom-refl o, e, e′, e″, merged-first s t, merged-rest s t, merged-drop (size k) (restOf s) (restOf t)))
           (rw (merged-first s t, merged-rest s t, merged-drop (size k) (restOf s) (restOf t)) (c, f, g))

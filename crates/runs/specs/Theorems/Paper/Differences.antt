@@ -108,7 +108,10 @@ outcome c = (
 )
 
 all-put : map outcome cases ≡ map (λ c. (c .printed, c .strict, c .clash, c .marks)) cases
-unfolding outcome backward forward written sequence itemsAt firstClash standingFor standing brought brings handedBack linesIn numberedFrom lineOf whole showing show putBack valueIn oneTop oneElement oneText bounded inTurn verdict mergedInto untouchedSlots gatheredSlots valueOf saysYes inside overItems elementOf bytesOf isFrom numberOf isTop noTop startsTop lowered raised toFirst items shallow withinBounds sort newText isUntouched isClash sameStanding _⋓_ fitted allOver merged gathered handsBack isElement sameText agree
+unfolding outcome backward forward written sequence itemsAt firstClash standingFor standing brought brings handedBack linesIn numberedFrom
+    lineOf whole showing show putBack valueIn oneTop oneElement oneText bounded inTurn verdict mergedInto untouchedSlots gatheredSlots valueOf
+    saysYes inside overItems elementOf bytesOf isFrom numberOf isTop noTop startsTop lowered raised toFirst items shallow withinBounds sort
+    newText isUntouched isClash sameStanding _⋓_ fitted allOver merged gathered handsBack isElement sameText agree
 all-put = refl
 
 -- ## Views that replies 9 and 10 keep from being put back, where the paper fails: xconst, xsetcnt and split
@@ -143,7 +146,9 @@ judged c = (
 )
 
 all-kept : map judged keptBack ≡ map (λ c. (fail, c .nine, c .ten)) keptBack
-unfolding judged backward forward written sequence itemsAt numberedFrom lineOf whole showing shownLine view show valueIn oneTop oneElement oneText bounded inTurn verdict valueOf elementOf bytesOf numberOf isTop noTop startsTop lowered raised toFirst items shallow withinBounds isElement sameText agree isMarked firstFrom sameHead sameLine differenceFrom firstDifference programMarked programMark
+unfolding judged backward forward written sequence itemsAt numberedFrom lineOf whole showing shownLine view show valueIn oneTop oneElement
+    oneText bounded inTurn verdict valueOf elementOf bytesOf numberOf isTop noTop startsTop lowered raised toFirst items shallow withinBounds
+    isElement sameText agree isMarked firstFrom sameHead sameLine differenceFrom firstDifference programMarked programMark
 all-kept = refl
 
 -- ## Size: the paper joins any two sequences, document 01 stops over 128 nodes
@@ -152,7 +157,8 @@ texts : ℕ → List Line
 texts zero = []
 texts (suc n) = textLine 0 0 hi ∷ texts n
 
-over-128 : ((forward (written (beside 0 (source 1) (source 2))) [] (sequence (texts 65)) >>= λ T. got (len T)) ≡ got 130) × (showing (oneMaster (texts 65)) (beside 0 (source 1) (source 2)) ≡ stops (Size 0))
+over-128 : ((forward (written (beside 0 (source 1) (source 2))) [] (sequence (texts 65)) >>= λ T. got (len T)) ≡ got 130)
+    × (showing (oneMaster (texts 65)) (beside 0 (source 1) (source 2)) ≡ stops (Size 0))
 unfolding texts forward written sequence itemsAt showing numberedFrom lineOf whole show inTurn isElement
 over-128 = (refl, refl)
 

@@ -21,7 +21,8 @@ use Rattle.runs.specs.Paper.Operators.{mg, Backward, Guard}
 use Rattle.runs.specs.Paper.Semantics.{Forward, updated}
 use Rattle.runs.specs.Paper.Semantics.{Asking as Predicated}
 use Rattle.runs.specs.Theorems.Paper.Trees.{treesIn, Trees, nil, txt, flat, Scope, flatSlots, names, fromOrigin, paint, paintAll, Right, RightAll}
-use Rattle.runs.specs.Theorems.Paper.Brushes.{textFor, stateFor, brush, Permit, FineText, Fine, FineAll, told, gathered-flat, clash-stays, clash-joins, Merging, whole, torn, merging}
+use Rattle.runs.specs.Theorems.Paper.Brushes.{textFor, stateFor, brush, Permit, FineText, Fine, FineAll, told}
+use Rattle.runs.specs.Theorems.Paper.Brushes.{gathered-flat, clash-stays, clash-joins, Merging, whole, torn, merging}
 use Rattle.runs.specs.Theorems.Paper.Places.{noMarks}
 
 -- ## Numbers that are watched
@@ -70,7 +71,8 @@ module _ (look : Lookup) (permit : Permit) where
   pub record TestBacks (C : Scope) (f : Trees) (p : Answer) (put : Putting) (asks : Predicated) (bwd : Backward) : Type 0 where
     pub forth : asks (paintAll look noMarks C) (paint look noMarks f) ≡ got (p .yes)
     pub back : (rs : List Standing) (us : SlotStandings) → Fine permit f rs → FineAll permit C us
-        → Ends C none f (put (flatSlots C) (flat 0 f) rs us) (bwd (pairs look C us) (paint look noMarks f) (brush look f rs)) (said C (record { value = flat 0 f; compared = p .compared }) rs us)
+        → Ends C none f (put (flatSlots C) (flat 0 f) rs us) (bwd (pairs look C us) (paint look noMarks f) (brush look f rs))
+        (said C (record { value = flat 0 f; compared = p .compared }) rs us)
 
   module _ (watch : ℕ → Bool) where
     -- of a run with slots of these names bound, if all that it compares is watched
@@ -88,7 +90,8 @@ module _ (look : Lookup) (permit : Permit) where
 
     -- on a text of origin w with standing s: it locks it, or it fails and that is a clash
     pub data Guarded (g : Guard) (w : Origin) (s : Standing) : Type 0 where
-      passes : g (str (textFor look w s) (stateFor w s) (fromOrigin w) none) (bytesOf look w) ≡ got (str (textFor look w (s ⋓ locked)) (stateFor w (s ⋓ locked)) (fromOrigin w) none)
+      passes : g (str (textFor look w s) (stateFor w s) (fromOrigin w) none) (bytesOf look w)
+          ≡ got (str (textFor look w (s ⋓ locked)) (stateFor w (s ⋓ locked)) (fromOrigin w) none)
           → FineText permit w (s ⋓ locked) → Guarded g w s
       stopped : g (str (textFor look w s) (stateFor w s) (fromOrigin w) none) (bytesOf look w) ≡ fail
           → (n : ℕ) → isClash (only (isFrom n w) s ⋓ only (isFrom n w) locked) ≡ true → Guarded g w s
@@ -100,15 +103,18 @@ module _ (look : Lookup) (permit : Permit) where
   -- ## One call after another
 
   module _ (C : Scope) where
-    pub ends-at : (before : Sequence) (f : Trees) (b b′ : Back) (p p′ : May (Sequence × PairContext)) (all : ℕ → Standing) → b ≡ b′ → p ≡ p′ → Ends C before f b′ p′ all → Ends C before f b p all
+    pub ends-at : (before : Sequence) (f : Trees) (b b′ : Back) (p p′ : May (Sequence × PairContext)) (all : ℕ → Standing)
+        → b ≡ b′ → p ≡ p′ → Ends C before f b′ p′ all → Ends C before f b p all
     ends-at before f b b′ p p′ all e q h = rw (e, q) h
 
-    pub ends-all : (before : Sequence) (f : Trees) (b : Back) (p : May (Sequence × PairContext)) (all all′ : ℕ → Standing) → ((n : ℕ) → isClash (all′ n) ≡ true → isClash (all n) ≡ true)
+    pub ends-all : (before : Sequence) (f : Trees) (b : Back) (p : May (Sequence × PairContext)) (all all′ : ℕ → Standing)
+        → ((n : ℕ) → isClash (all′ n) ≡ true → isClash (all n) ≡ true)
         → Ends C before f b p all′ → Ends C before f b p all
     ends-all before f b p all all′ m (went e F E) = went e F E
     ends-all before f b p all all′ m (failed e n c) = failed e n (m n c)
 
-    pub ends-then : (before : Sequence) (f₁ f : Trees) (b₁ b : Back) (p₁ : May (Sequence × PairContext)) (all₁ all : ℕ → Standing) (k : Sequence × PairContext → May (Sequence × PairContext))
+    pub ends-then : (before : Sequence) (f₁ f : Trees) (b₁ b : Back) (p₁ : May (Sequence × PairContext))
+        (all₁ all : ℕ → Standing) (k : Sequence × PairContext → May (Sequence × PairContext))
         → Ends C none f₁ b₁ p₁ all₁ → ((n : ℕ) → isClash (all₁ n) ≡ true → isClash (all n) ≡ true)
         → (Fine permit f₁ (b₁ .inSource) → FineAll permit C (b₁ .inSlots) → Ends C before f b (k (brush look f₁ (b₁ .inSource), pairs look C (b₁ .inSlots))) all)
         → Ends C before f b (p₁ >>= k) all
@@ -128,7 +134,8 @@ module _ (look : Lookup) (permit : Permit) where
     refuses : p ≡ fail → (n : ℕ) → isClash (all n) ≡ true → Takes C p us all
 
   pub slot-takes-in : (k : ℕ) (C : Scope) (ss : List Standing) (us : SlotStandings) → among k (names C) ≡ true → Fine permit (treesIn k C) ss → FineAll permit C us
-      → Takes C (updated k (brush look (treesIn k C) ss) (pairs look C us)) (mergedInto k (flatSlots C) ss us) (λ n. gathered n (flat 0 (treesIn k C)) ss ⋓ gatheredSlots n (flatSlots C) us)
+      → Takes C (updated k (brush look (treesIn k C) ss) (pairs look C us)) (mergedInto k (flatSlots C) ss us)
+      (λ n. gathered n (flat 0 (treesIn k C)) ss ⋓ gatheredSlots n (flatSlots C) us)
   unfolding among mergedInto gatheredSlots
   slot-takes-in k [] ss us h F E = absurd (let z : _≡_ {A = ℕ} 0 1 = cc in omega arith)
   slot-takes-in k (b ∷ C) ss us h F E = go (eqb k (b .0)) h F (λ r F′. slot-takes-in k C ss (restSlots us) r F′ (E .1))
@@ -140,17 +147,23 @@ module _ (look : Lookup) (permit : Permit) where
       all f n = gathered n (flat 0 f) ss ⋓ (gathered n (flat 0 (b .1)) (firstSlot us) ⋓ gatheredSlots n (flatSlots C) (restSlots us))
 
       here : Merging look permit (b .1) (firstSlot us) ss
-          → Takes (b ∷ C) (own (brush look (b .1) ss) >>= λ Q. got ((b .0, (paint look noMarks (b .1), Q)) ∷ pairs look C (restSlots us))) (merged (firstSlot us) ss ∷ restSlots us) (all (b .1))
+          → Takes (b ∷ C) (own (brush look (b .1) ss) >>= λ Q. got ((b .0, (paint look noMarks (b .1), Q)) ∷ pairs look C (restSlots us)))
+          (merged (firstSlot us) ss ∷ restSlots us) (all (b .1))
       here (whole e f) = takes (rw e) (f, E .1)
       here (torn e n c) =
           let ours = gathered n (flat 0 (b .1)) ss in
           let had = gathered n (flat 0 (b .1)) (firstSlot us) in
           refuses (rw e) n
           (ap isClash (sym (merge-assoc ours had (gatheredSlots n (flatSlots C) (restSlots us))))
-          ∙ clash-stays (ours ⋓ had) (gatheredSlots n (flatSlots C) (restSlots us)) (rw (gathered-flat n 0 (b .1) ss, gathered-flat n 0 (b .1) (firstSlot us)) (ap isClash (merge-comm (told n (b .1) ss) (told n (b .1) (firstSlot us))) ∙ c)))
+          ∙ clash-stays (ours ⋓ had) (gatheredSlots n (flatSlots C) (restSlots us))
+          (rw (gathered-flat n 0 (b .1) ss, gathered-flat n 0 (b .1) (firstSlot us))
+          (ap isClash (merge-comm (told n (b .1) ss) (told n (b .1) (firstSlot us))) ∙ c)))
 
-      there : Takes C (updated k (brush look (treesIn k C) ss) (pairs look C (restSlots us))) (mergedInto k (flatSlots C) ss (restSlots us)) (λ n. gathered n (flat 0 (treesIn k C)) ss ⋓ gatheredSlots n (flatSlots C) (restSlots us))
-          → Takes (b ∷ C) (updated k (brush look (treesIn k C) ss) (pairs look C (restSlots us)) >>= λ E′. got ((b .0, (paint look noMarks (b .1), brush look (b .1) (firstSlot us))) ∷ E′))
+      there : Takes C (updated k (brush look (treesIn k C) ss) (pairs look C (restSlots us))) (mergedInto k (flatSlots C) ss (restSlots us))
+          (λ n. gathered n (flat 0 (treesIn k C)) ss ⋓ gatheredSlots n (flatSlots C) (restSlots us))
+          → Takes (b ∷ C)
+          (updated k (brush look (treesIn k C) ss) (pairs look C (restSlots us))
+          >>= λ E′. got ((b .0, (paint look noMarks (b .1), brush look (b .1) (firstSlot us))) ∷ E′))
           (firstSlot us ∷ mergedInto k (flatSlots C) ss (restSlots us)) (all (treesIn k C))
       there (takes e f) = takes (rw e) (E .0, f)
       there (refuses e n c) =
@@ -162,9 +175,11 @@ module _ (look : Lookup) (permit : Permit) where
 
       go : (t : Bool) → (t || among k (names C)) ≡ true → Fine permit (cond t (b .1) (treesIn k C)) ss
           → (among k (names C) ≡ true → Fine permit (treesIn k C) ss
-          → Takes C (updated k (brush look (treesIn k C) ss) (pairs look C (restSlots us))) (mergedInto k (flatSlots C) ss (restSlots us)) (λ n. gathered n (flat 0 (treesIn k C)) ss ⋓ gatheredSlots n (flatSlots C) (restSlots us)))
+          → Takes C (updated k (brush look (treesIn k C) ss) (pairs look C (restSlots us))) (mergedInto k (flatSlots C) ss (restSlots us))
+          (λ n. gathered n (flat 0 (treesIn k C)) ss ⋓ gatheredSlots n (flatSlots C) (restSlots us)))
           → Takes (b ∷ C) (cond t (own (brush look (cond t (b .1) (treesIn k C)) ss) >>= λ Q. got ((b .0, (paint look noMarks (b .1), Q)) ∷ pairs look C (restSlots us)))
-          (updated k (brush look (cond t (b .1) (treesIn k C)) ss) (pairs look C (restSlots us)) >>= λ E′. got ((b .0, (paint look noMarks (b .1), brush look (b .1) (firstSlot us))) ∷ E′)))
+          (updated k (brush look (cond t (b .1) (treesIn k C)) ss) (pairs look C (restSlots us))
+          >>= λ E′. got ((b .0, (paint look noMarks (b .1), brush look (b .1) (firstSlot us))) ∷ E′)))
           (cond t (merged (firstSlot us) ss ∷ restSlots us) (firstSlot us ∷ mergedInto k (flatSlots C) ss (restSlots us)))
           (all (cond t (b .1) (treesIn k C)))
       go true h F r = here (merging look permit (b .1) (firstSlot us) ss (E .0) F)

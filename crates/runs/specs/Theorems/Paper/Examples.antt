@@ -196,7 +196,8 @@ unfolding forward sequence itemsAt isElement sameText
 shown-bib = (refl, refl)
 
 -- the title in the table of contents is changed: node 3 is, and so is its copy when the view is shown again
-edited-bib : (backward guard bibPrinted [] (sequence books) (sequence (bibLines 1 webDatabase (bookLines 0 database))) ≡ got (sequence (line 0 2 0 0 bib ∷ bookLines 1 webDatabase), []))
+edited-bib : (backward guard bibPrinted [] (sequence books) (sequence (bibLines 1 webDatabase (bookLines 0 database)))
+    ≡ got (sequence (line 0 2 0 0 bib ∷ bookLines 1 webDatabase), []))
     × (backward guard bibView [] (sequence books) (sequence (bibLines 1 webDatabase (bookLines 0 database))) ≡ got (sequence (line 0 2 0 0 bib ∷ bookLines 1 webDatabase), []))
 unfolding backward forward sequence itemsAt isElement sameText
 edited-bib = (refl, refl)
@@ -210,7 +211,8 @@ again-bib = refl
 -- 10 twice, and the table of titles before the books
 shown-by-the-rules : (view (oneMaster oneTen) (valueOf (showing (oneMaster oneTen) tens)) ≡ line 0 1 0 0 ten ∷ line 0 1 0 0 ten ∷ [])
     × (view (oneMaster books) (valueOf (showing (oneMaster books) bibTree)) ≡ bibLines 0 database (bookLines 0 database))
-unfolding view shownLine numberedFrom lineOf whole showing show valueIn oneTop oneElement oneText bounded inTurn verdict valueOf elementOf bytesOf numberOf isTop noTop startsTop lowered raised toFirst items shallow withinBounds isElement sameText agree
+unfolding view shownLine numberedFrom lineOf whole showing show valueIn oneTop oneElement oneText bounded inTurn verdict valueOf
+    elementOf bytesOf numberOf isTop noTop startsTop lowered raised toFirst items shallow withinBounds isElement sameText agree
 shown-by-the-rules = (refl, refl)
 
 -- both edits of 10 are a clash of node 0; the edited title is handed back as the paper has it
@@ -218,5 +220,8 @@ by-the-rules : (clashOf tens oneTen (line 0 1 1 0 eleven ∷ line 0 1 0 0 ten �
     × (clashOf tens oneTen (line 0 1 0 0 ten ∷ line 0 1 1 0 eleven ∷ []) ≡ Fault 0)
     × (clashOf bibTree books (bibLines 1 webDatabase (bookLines 0 database)) ≡ Fine)
     × (handedBackBy bibTree books (bibLines 1 webDatabase (bookLines 0 database)) ≡ line 0 2 0 0 bib ∷ bookLines 1 webDatabase)
-unfolding firstClash standingFor standing brought brings handedBack linesIn numberedFrom lineOf whole showing show putBack valueIn oneTop oneElement oneText bounded inTurn verdict mergedInto untouchedSlots gatheredSlots valueOf saysYes inside overItems elementOf bytesOf isFrom numberOf isTop noTop startsTop lowered raised toFirst items shallow withinBounds sort newText isUntouched isClash sameStanding _⋓_ fitted allOver merged gathered handsBack isElement sameText agree
+unfolding firstClash standingFor standing brought brings handedBack linesIn numberedFrom lineOf whole showing show putBack
+    valueIn oneTop oneElement oneText bounded inTurn verdict mergedInto untouchedSlots gatheredSlots valueOf saysYes inside
+    overItems elementOf bytesOf isFrom numberOf isTop noTop startsTop lowered raised toFirst items shallow withinBounds sort
+    newText isUntouched isClash sameStanding _⋓_ fitted allOver merged gathered handsBack isElement sameText agree
 by-the-rules = (refl, refl, refl, refl)

@@ -10,7 +10,8 @@ use Rattle.values.specs.Values.{Origin, master, program, Lookup, bytesOf, isFro
 use Rattle.values.specs.Standings.{Standing, untouched, locked, changed, deleted, clash, sort, newText, isUntouched, isClash, sameStanding, _⋓_}
 use Rattle.values.specs.Theorems.Bools.{or-right, or-other}
 use Rattle.values.specs.Theorems.MergeLaws.{sameText-refl}
-use Rattle.runs.specs.Paper.Data.{ori, non, mod′, del, src, code, Sequence, none, str, elt, _⧺_, len, May, fail, got, _>>=_, _>>_, provided, isNone, theString, theElement, sameFrom}
+use Rattle.runs.specs.Paper.Data.{ori, non, mod′, del, src, code, Sequence, none, str, elt, _⧺_, len, May}
+use Rattle.runs.specs.Paper.Data.{fail, got, _>>=_, _>>_, provided, isNone, theString, theElement, sameFrom}
 use Rattle.runs.specs.Paper.Language.{Construct, xid, xconst, xvar, xchild, xsetcnt, xseq, xpar, xmap, xif, xlet, Predicate, xeq, xwithtag, xiselement}
 use Rattle.runs.specs.Paper.Contexts.{PairContext, firsts}
 use Rattle.runs.specs.Paper.Operators.{split, inTwo, Backward, iter, guard}
@@ -82,7 +83,8 @@ keptWhere look watch =
       merge-permitted = λ n s t p q. merge-either (λ z. (not (watch n) || isKept (look .bytes n) z) ≡ true) s t p q (or-right (not (watch n)) true refl);
     }
 
-printed-text : (look : Lookup) (watch : ℕ → Bool) (n : ℕ) (s : Standing) → isClash s ≡ false → isKept (look .bytes n) s ≡ true → (not (watch n) || isKept (look .bytes n) locked) ≡ true
+printed-text : (look : Lookup) (watch : ℕ → Bool) (n : ℕ) (s : Standing) → isClash s ≡ false
+    → isKept (look .bytes n) s ≡ true → (not (watch n) || isKept (look .bytes n) locked) ≡ true
     → Guarded look (keptWhere look watch) watch guard (master n) s
 unfolding bytesOf isFrom _⋓_ isUntouched isClash sameStanding sort newText sameText
 printed-text look watch n untouched h k l = passes (rw (sameText-refl (look .bytes n))) (refl, l)
@@ -161,19 +163,24 @@ mutual
   strict-yields xchild E S T = λ r h. h
   strict-yields (xsetcnt X) E S T =
       yields-after (theElement S) _ _ λ a. yields-after (theElement T) _ _ λ b. yields-provided (sameText (a .tag) (b .tag) && sameFrom (a .origin) (b .origin)) _ _
-      (yields-then (backward strictGuard X E (a .contents) (b .contents)) (backward guard X E (a .contents) (b .contents)) _ _ (strict-yields X E (a .contents) (b .contents)) λ r z h. h)
+      (yields-then (backward strictGuard X E (a .contents) (b .contents)) (backward guard X E (a .contents) (b .contents)) _ _
+      (strict-yields X E (a .contents) (b .contents)) λ r z h. h)
   strict-yields (xseq X Y) E S T =
-      yields-after (forward X (firsts E) S) _ _ λ W. yields-then (backward strictGuard Y E W T) (backward guard Y E W T) _ _ (strict-yields Y E W T) λ r. strict-yields X (r .1) S (r .0)
+      yields-after (forward X (firsts E) S) _ _ λ W.
+      yields-then (backward strictGuard Y E W T) (backward guard Y E W T) _ _ (strict-yields Y E W T) λ r. strict-yields X (r .1) S (r .0)
   strict-yields (xpar X Y) E S T =
-      yields-after (forward X (firsts E) S) _ _ λ A. yields-after (forward Y (firsts E) S) _ _ λ B. yields-after (split T (len A ∷ len B ∷ [])) _ _ λ l. yields-after (inTwo l) _ _ λ p.
+      yields-after (forward X (firsts E) S) _ _ λ A. yields-after (forward Y (firsts E) S) _ _ λ B.
+      yields-after (split T (len A ∷ len B ∷ [])) _ _ λ l. yields-after (inTwo l) _ _ λ p.
       yields-then (backward strictGuard Y E S (p .1)) (backward guard Y E S (p .1)) _ _ (strict-yields Y E S (p .1)) λ b.
       yields-then (backward strictGuard X (b .1) S (p .0)) (backward guard X (b .1) S (p .0)) _ _ (strict-yields X (b .1) S (p .0)) λ a z h. h
   strict-yields (xmap X) E S T =
-      yields-after (lengths (forward X (firsts E)) S) _ _ λ l. yields-after (split T l) _ _ λ ST. iter-yields (backward strictGuard X) (backward guard X) (strict-yields X) ST S none E
+      yields-after (lengths (forward X (firsts E)) S) _ _ λ l.
+      yields-after (split T l) _ _ λ ST. iter-yields (backward strictGuard X) (backward guard X) (strict-yields X) ST S none E
   strict-yields (xif P X Y) E S T =
       yields-after (asks P (firsts E) S) _ _ λ b.
       yields-then (branch b (backward strictGuard X E S T) (backward strictGuard Y E S T)) (branch b (backward guard X E S T) (backward guard Y E S T)) _ _
-      (branch-yields b (backward strictGuard X E S T) (backward strictGuard Y E S T) (backward guard X E S T) (backward guard Y E S T) (strict-yields X E S T) (strict-yields Y E S T)) λ r.
+      (branch-yields b (backward strictGuard X E S T) (backward strictGuard Y E S T)
+      (backward guard X E S T) (backward guard Y E S T) (strict-yields X E S T) (strict-yields Y E S T)) λ r.
       strict-holds P (r .1) S (r .0)
   strict-yields (xlet k X) E S T =
       yields-then (backward strictGuard X ((k, (S, S)) ∷ E) none T) (backward guard X ((k, (S, S)) ∷ E) none T) taken taken (strict-yields X ((k, (S, S)) ∷ E) none T) λ r z h. h
@@ -181,7 +188,8 @@ mutual
   pub strict-holds : (P : Predicate) (E : PairContext) (S T : Sequence) → Yields (holds strictGuard P E S T) (holds guard P E S T)
   strict-holds (xeq X) E S T =
       yields-after (theString S) _ _ λ x. yields-after (forward X (firsts E) none) _ _ λ U. yields-after (theString U) _ _ λ y.
-      yields-then (strictGuard U y) (guard U y) _ _ (guard-yields U y) λ J. yields-then (backward strictGuard X E none J) (backward guard X E none J) _ _ (strict-yields X E none J) λ r.
+      yields-then (strictGuard U y) (guard U y) _ _ (guard-yields U y) λ J.
+      yields-then (backward strictGuard X E none J) (backward guard X E none J) _ _ (strict-yields X E none J) λ r.
       yields-provided (isNone (r .0)) _ _ (yields-then (strictGuard T x) (guard T x) _ _ (guard-yields T x) λ Q z h. h)
   strict-holds (xwithtag t) E S T = λ r h. h
   strict-holds xiselement E S T = λ r h. h

@@ -20,7 +20,8 @@ use Rattle.runs.specs.Paper.Operators.{split, Backward, iter}
 use Rattle.runs.specs.Paper.Semantics.{Forward, onEach, lengths}
 use Rattle.runs.specs.Paper.Semantics.{xmap-forward}
 use Rattle.runs.specs.Paper.Semantics.{xmap-backward}
-use Rattle.runs.specs.Theorems.Paper.Trees.{seq-none, seq-assoc, Trees, nil, txt, elm, flat, _⊹_, Scope, flatSlots, names, flat-append, itemsOf, items-flat, paint, paintAll, paint-append, Right, RightAll, right-append}
+use Rattle.runs.specs.Theorems.Paper.Trees.{seq-none, seq-assoc, Trees, nil, txt, elm, flat, _⊹_, Scope, flatSlots, names, flat-append}
+use Rattle.runs.specs.Theorems.Paper.Trees.{itemsOf, items-flat, paint, paintAll, paint-append, Right, RightAll, right-append}
 use Rattle.runs.specs.Theorems.Paper.Brushes.{size, length-flat, brush, Permit, Fine, FineAll, clash-stays}
 use Rattle.runs.specs.Theorems.Paper.Places.{at-fitted, drop-fitted, Alike, alike-take, brush-alike, brush-append, fine-alike, fine-parts, fine-append, noMarks}
 use Rattle.runs.specs.Theorems.Paper.Ends.{Watched, watched-left, watched-right, pairs, firsts-pairs, said, Ends, went, failed, Backs, PutsBack, ends-at, ends-then}
@@ -48,10 +49,13 @@ module _ (look : Lookup) (permit : Permit) (watch : ℕ → Bool) where
 
   -- the first item's putting back and that of the others
   item-ends : (put : Putting) (bwd : Backward) (C : Scope) (h r : Trees) (a c : Shown) (gh gr : Trees) → length (a .value) ≡ size gh
-      → ((n : ℕ) (ss : List Standing) (us : SlotStandings) → let b = put (flatSlots C) (flat 0 h) ss us in gathered n (flat 0 h) (b .inSource) ⋓ gatheredSlots n (flatSlots C) (b .inSlots) ≡ said C a ss us n)
+      → ((n : ℕ) (ss : List Standing) (us : SlotStandings) → let b = put (flatSlots C) (flat 0 h) ss us in
+      gathered n (flat 0 h) (b .inSource) ⋓ gatheredSlots n (flatSlots C) (b .inSlots) ≡ said C a ss us n)
       → (rest : List Standing → SlotStandings → Back) (parts : List Standing → List Sequence)
-      → ((ss : List Standing) (us : SlotStandings) → Fine permit gh ss → FineAll permit C us → Ends look permit C none h (put (flatSlots C) (flat 0 h) ss us) (bwd (pairs look C us) (pt h) (brush look gh ss)) (said C a ss us))
-      → ((ss : List Standing) (us : SlotStandings) → Fine permit gr ss → FineAll permit C us → (before : Sequence) → Ends look permit C before r (rest ss us) (iter bwd (parts ss) (pt r) before (pairs look C us)) (said C c ss us))
+      → ((ss : List Standing) (us : SlotStandings) → Fine permit gh ss → FineAll permit C us
+      → Ends look permit C none h (put (flatSlots C) (flat 0 h) ss us) (bwd (pairs look C us) (pt h) (brush look gh ss)) (said C a ss us))
+      → ((ss : List Standing) (us : SlotStandings) → Fine permit gr ss → FineAll permit C us
+      → (before : Sequence) → Ends look permit C before r (rest ss us) (iter bwd (parts ss) (pt r) before (pairs look C us)) (said C c ss us))
       → (ss : List Standing) (us : SlotStandings) → Fine permit (gh ⊹ gr) ss → FineAll permit C us → (before : Sequence)
       → Ends look permit C before (h ⊹ r)
       (let b = put (flatSlots C) (flat 0 h) (take (size gh) ss) us in
@@ -70,7 +74,8 @@ module _ (look : Lookup) (permit : Permit) (watch : ℕ → Bool) where
       let second : (n : ℕ) → all n ≡ said C c (drop k ss) (b .inSlots) n ⋓ gathered n (flat 0 h) (b .inSource)
       = λ n. first n ∙ ap (λ (z : Standing). z ⋓ (gathered n (c .value) (drop k ss) ⋓ lock n (c .compared))) (sym (L n (take k ss) us))
       ∙ regroup-slots (gathered n (flat 0 h) (b .inSource)) (gatheredSlots n (flatSlots C) (b .inSlots)) (gathered n (c .value) (drop k ss)) (lock n (c .compared)) in
-      ends-then look permit C before h (h ⊹ r) b (back (fitted (flat 0 h) (b .inSource) ++ d .inSource) (d .inSlots)) (bwd (pairs look C us) (pt h) (brush look gh (take k ss))) (said C a (take k ss) us) all
+      ends-then look permit C before h (h ⊹ r) b (back (fitted (flat 0 h) (b .inSource) ++ d .inSource) (d .inSlots))
+      (bwd (pairs look C us) (pt h) (brush look gh (take k ss))) (said C a (take k ss) us) all
       (λ z. iter bwd (parts (drop k ss)) (pt r) (before ⧺ z .0) (z .1))
       (H (take k ss) us (fine-alike permit gh ss (take k ss) (alike-take k ss) (i .0)) E)
       (λ n u. ap isClash (first n) ∙ clash-stays (said C a (take k ss) us n) (gathered n (c .value) (drop k ss) ⋓ lock n (c .compared)) u)
@@ -78,7 +83,8 @@ module _ (look : Lookup) (permit : Permit) (watch : ℕ → Bool) where
       (λ n u. ap isClash (second n) ∙ clash-stays (said C c (drop k ss) (b .inSlots) n) (gathered n (flat 0 h) (b .inSource)) u)
       (T (drop k ss) (b .inSlots) (i .1) Eb (before ⧺ brush look h (b .inSource))))
     where
-      others : (b d : Back) (p : May (Sequence × PairContext)) (all all′ : ℕ → Standing) → Fine permit h (b .inSource) → ((n : ℕ) → isClash (all′ n) ≡ true → isClash (all n) ≡ true)
+      others : (b d : Back) (p : May (Sequence × PairContext)) (all all′ : ℕ → Standing)
+          → Fine permit h (b .inSource) → ((n : ℕ) → isClash (all′ n) ≡ true → isClash (all n) ≡ true)
           → Ends look permit C (before ⧺ brush look h (b .inSource)) r d p all′
           → Ends look permit C before (h ⊹ r) (back (fitted (flat 0 h) (b .inSource) ++ d .inSource) (d .inSlots)) p all
       others b d p all all′ Kb m (failed e n u) = failed e n (m n u)
@@ -94,12 +100,14 @@ module _ (look : Lookup) (permit : Permit) (watch : ℕ → Bool) where
           (fine-append permit h r l (fine-alike permit h (b .inSource) l al Kb) (subst⁻¹ (λ (q : List Standing). Fine permit r q) dr Kd)) Ed
 
   -- an item h in front of r, which the last four equations say
-  item-listed : (run : Run) (put : Putting) (fwd : Forward) (bwd : Backward) → ((n : ℕ) → Law n run put) → (C : Scope) (h r : Trees) (a c : Shown) → run (flatSlots C) (flat 0 h) ≡ gives a
+  item-listed : (run : Run) (put : Putting) (fwd : Forward) (bwd : Backward) → ((n : ℕ) → Law n run put)
+      → (C : Scope) (h r : Trees) (a c : Shown) → run (flatSlots C) (flat 0 h) ≡ gives a
       → Backs look permit C h a put fwd bwd → Listed run put fwd bwd C r c
       → itemsOf (h ⊹ r) ≡ flat 0 h ∷ itemsOf r
       → onEach (fwd (pc C)) (pt (h ⊹ r)) ≡ (fwd (pc C) (pt h) >>= λ A. onEach (fwd (pc C)) (pt r) >>= λ B. got (A ⧺ B))
       → lengths (fwd (pc C)) (pt (h ⊹ r)) ≡ (fwd (pc C) (pt h) >>= λ A. lengths (fwd (pc C)) (pt r) >>= λ l. got (len A ∷ l))
-      → ((T : Sequence) (l : List Sequence) (before : Sequence) (E : PairContext) → iter bwd (T ∷ l) (pt (h ⊹ r)) before E ≡ (bwd E (pt h) T >>= λ z. iter bwd l (pt r) (before ⧺ z .0) (z .1)))
+      → ((T : Sequence) (l : List Sequence) (before : Sequence) (E : PairContext)
+      → iter bwd (T ∷ l) (pt (h ⊹ r)) before E ≡ (bwd E (pt h) T >>= λ z. iter bwd l (pt r) (before ⧺ z .0) (z .1)))
       → Listed run put fwd bwd C (h ⊹ r) (both a c)
   unfolding overItems valueOf
   item-listed run put fwd bwd L C h r a c p A R is on ln it =
@@ -113,37 +121,54 @@ module _ (look : Lookup) (permit : Permit) (watch : ℕ → Bool) where
         lengthsAre = ln ∙ rw (A .forth, R .lengthsAre);
         parts = λ ss. brush look (A .g) (take (size (A .g)) ss) ∷ R .parts (drop (size (A .g)) ss);
         splitIs = λ ss. rw (brush-append look (A .g) (R .gs) ss, brush-alike look (A .g) ss (take (size (A .g)) ss) (alike-take (size (A .g)) ss))
-            (split-brush look (A .g) (take (size (A .g)) ss) (brush look (R .gs) (drop (size (A .g)) ss)) (R .ls) (R .parts (drop (size (A .g)) ss)) (R .splitIs (drop (size (A .g)) ss)));
+            (split-brush look (A .g) (take (size (A .g)) ss) (brush look (R .gs) (drop (size (A .g)) ss))
+            (R .ls) (R .parts (drop (size (A .g)) ss)) (R .splitIs (drop (size (A .g)) ss)));
         backs = λ ss us K E before.
             ends-at look permit C before (h ⊹ r) (itemsPut run put (itemsOf (h ⊹ r)) (flatSlots C) ss us)
             (let b = put (flatSlots C) (flat 0 h) (take (size (A .g)) ss) us in
             let d = itemsPut run put (itemsOf r) (flatSlots C) (drop (size (A .g)) ss) (b .inSlots) in
             back (fitted (flat 0 h) (b .inSource) ++ d .inSource) (d .inSlots))
             (iter bwd (brush look (A .g) (take (size (A .g)) ss) ∷ R .parts (drop (size (A .g)) ss)) (pt (h ⊹ r)) before (pairs look C us))
-            (bwd (pairs look C us) (pt h) (brush look (A .g) (take (size (A .g)) ss)) >>= λ z. iter bwd (R .parts (drop (size (A .g)) ss)) (pt r) (before ⧺ z .0) (z .1)) (said C (both a c) ss us)
+            (bwd (pairs look C us) (pt h) (brush look (A .g) (take (size (A .g)) ss))
+            >>= λ z. iter bwd (R .parts (drop (size (A .g)) ss)) (pt r) (before ⧺ z .0) (z .1))
+            (said C (both a c) ss us)
             (ap (λ (l : List Value). itemsPut run put l (flatSlots C) ss us) is
             ∙ ap (λ (m : ℕ).
             let b = put (flatSlots C) (flat 0 h) (take m ss) us in
             let d = itemsPut run put (itemsOf r) (flatSlots C) (drop m ss) (b .inSlots) in
             back (fitted (flat 0 h) (b .inSource) ++ d .inSource) (d .inSlots)) (ap (λ (z : Result Stop Shown). length (valueOf z)) p ∙ la))
             (it (brush look (A .g) (take (size (A .g)) ss)) (R .parts (drop (size (A .g)) ss)) before (pairs look C us))
-            (item-ends put bwd C h r a c (A .g) (R .gs) la (λ n ts vs. L n (flatSlots C) (flat 0 h) a p ts vs) (itemsPut run put (itemsOf r) (flatSlots C)) (R .parts) (A .back) (R .backs) ss us K E before);
+            (item-ends put bwd C h r a c (A .g) (R .gs) la (λ n ts vs. L n (flatSlots C) (flat 0 h) a p ts vs)
+            (itemsPut run put (itemsOf r) (flatSlots C)) (R .parts) (A .back) (R .backs) ss us K E before);
       }
 
   items-listed : (ns : List ℕ) (e : ℕ) (run : Run) (put : Putting) (fwd : Forward) (bwd : Backward) → PutsBack look permit watch ns run put fwd bwd → ((n : ℕ) → Law n run put)
-      → (C : Scope) → names C ≡ ns → RightAll look C → (f : Trees) → Right look f → (m : ℕ) (o : Shown) → inTurn e m (map (run (flatSlots C)) (itemsOf f)) ≡ gives o → Watched watch (o .compared)
+      → (C : Scope) → names C ≡ ns → RightAll look C → (f : Trees) → Right look f → (m : ℕ) (o : Shown)
+      → inTurn e m (map (run (flatSlots C)) (itemsOf f)) ≡ gives o → Watched watch (o .compared)
       → Listed run put fwd bwd C f o
   unfolding inTurn overItems
   items-listed ns e run put fwd bwd X L C s R nil F m o h W =
       on-gives (λ z. Listed run put fwd bwd C nil z) (record { value = []; compared = [] }) o h
-      (record { gs = nil; rights = tt; flats = refl; forths = refl; ls = []; lengthsAre = refl; parts = λ ss. []; splitIs = λ ss. refl; backs = λ ss us K E before. went (rw (seq-none before)) tt E })
+      (record {
+        gs = nil;
+        rights = tt;
+        flats = refl;
+        forths = refl;
+        ls = [];
+        lengthsAre = refl;
+        parts = λ ss. [];
+        splitIs = λ ss. refl;
+        backs = λ ss us K E before. went (rw (seq-none before)) tt E;
+      })
   items-listed ns e run put fwd bwd X L C s R (txt w r) F m o h W =
-      on-turn (λ z. Watched watch (z .compared) → Listed run put fwd bwd C (txt w r) z) e m (run (flatSlots C) (flat 0 (txt w nil))) (map (run (flatSlots C)) (itemsOf r)) o h (λ a c p _ q W.
+      on-turn (λ z. Watched watch (z .compared) → Listed run put fwd bwd C (txt w r) z) e m
+      (run (flatSlots C) (flat 0 (txt w nil))) (map (run (flatSlots C)) (itemsOf r)) o h (λ a c p _ q W.
       item-listed run put fwd bwd L C (txt w nil) r a c p (X C s R (txt w nil) (F .0, F .1, tt) a p (watched-left watch (a .compared) (c .compared) W))
       (items-listed ns e run put fwd bwd X L C s R r (F .2) (m + length (a .value)) c q (watched-right watch (a .compared) (c .compared) W)) refl refl refl (λ T l before E. refl))
       W
   items-listed ns e run put fwd bwd X L C s R (elm w k r) F m o h W =
-      on-turn (λ z. Watched watch (z .compared) → Listed run put fwd bwd C (elm w k r) z) e m (run (flatSlots C) (flat 0 (elm w k nil))) (map (run (flatSlots C)) (itemsOf r)) o h (λ a c p _ q W.
+      on-turn (λ z. Watched watch (z .compared) → Listed run put fwd bwd C (elm w k r) z) e m
+      (run (flatSlots C) (flat 0 (elm w k nil))) (map (run (flatSlots C)) (itemsOf r)) o h (λ a c p _ q W.
       item-listed run put fwd bwd L C (elm w k nil) r a c p (X C s R (elm w k nil) (F .0, F .1, F .2, tt) a p (watched-left watch (a .compared) (c .compared) W))
       (items-listed ns e run put fwd bwd X L C s R r (F .3) (m + length (a .value)) c q (watched-right watch (a .compared) (c .compared) W)) refl refl refl (λ T l before E. refl))
       W
@@ -160,5 +185,6 @@ module _ (look : Lookup) (permit : Permit) (watch : ℕ → Bool) where
         back = λ ss us K E.
             ends-at look permit C none f (eachPut run put (flatSlots C) (flat 0 f) ss us) (itemsPut run put (itemsOf f) (flatSlots C) ss us)
             (xmap-backward fwd bwd (pairs look C us) (pt f) (brush look (I .gs) ss)) (iter bwd (I .parts ss) (pt f) none (pairs look C us)) (said C o ss us)
-            (ap (λ (is : List Value). itemsPut run put is (flatSlots C) ss us) (items-flat f)) (rw (firsts-pairs look C us, I .lengthsAre, I .splitIs ss)) (I .backs ss us K E none);
+            (ap (λ (is : List Value). itemsPut run put is (flatSlots C) ss us) (items-flat f))
+            (rw (firsts-pairs look C us, I .lengthsAre, I .splitIs ss)) (I .backs ss us K E none);
       }

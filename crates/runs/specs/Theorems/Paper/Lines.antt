@@ -108,7 +108,8 @@ module _ (look : Lookup) where
       let S′ : Stops d (drop (size r) (drop (size k) ws)) = λ e h. ap (itemsAt e) (drop-drop (size r) (size k) ws) ∙ S e h in
       let behind : Stops d (drop (size k) ws) = stops-before d r u (drop (size k) ws) (c .1) S′ in
       let inner : itemsAt (suc d) ws ≡ drawn k ws
-      = items-drawn (suc d) k (flat d r ++ u) ws (F .2) (c .0) (λ e h. behind e (omega arith)) ∙ ap (λ (T : Sequence). drawn k ws ⧺ T) (behind (suc d) (omega arith)) ∙ seq-none (drawn k ws) in
+      = items-drawn (suc d) k (flat d r ++ u) ws (F .2) (c .0) (λ e h. behind e (omega arith))
+      ∙ ap (λ (T : Sequence). drawn k ws ⧺ T) (behind (suc d) (omega arith)) ∙ seq-none (drawn k ws) in
       let others : itemsAt d ws ≡ drawn r (drop (size k) ws) ⧺ itemsAt d (drop (size k + size r) ws)
       = skips d (suc d) (omega arith) k (flat d r ++ u) ws (c .0) ∙ items-drawn d r u (drop (size k) ws) (F .3) (c .1) S′
       ∙ ap (λ (l : List Line). drawn r (drop (size k) ws) ⧺ itemsAt d l) (drop-drop (size r) (size k) ws) in
@@ -148,7 +149,8 @@ module _ (look : Lookup) (h : Updating → Updating) where
     drawn-brush d nil u ws ss F I = sym at-none
     drawn-brush d (txt o r) u ws ss F I =
         let t = I .0 .asText (F .0) in
-        rw (t .0, t .1, I .0 .from, drawn-brush d r u (restLines ws) (restOf ss) (F .2) (I .1)) (sym (at-str (textFor look o (firstOf ss)) (stateFor o (firstOf ss)) (fromOrigin o) (brush look r (restOf ss))))
+        rw (t .0, t .1, I .0 .from, drawn-brush d r u (restLines ws) (restOf ss) (F .2) (I .1))
+        (sym (at-str (textFor look o (firstOf ss)) (stateFor o (firstOf ss)) (fromOrigin o) (brush look r (restOf ss))))
     drawn-brush d (elm o k r) u ws ss F I =
         let t = I .0 .asElement (F .0) in
         let inner : InkedAll (flat (suc d) k ++ (flat d r ++ u)) (restLines ws) (restOf ss) = rw (← (append-assoc (flat (suc d) k) (flat d r) u)) (I .1) in
@@ -199,7 +201,8 @@ view-drawn G d (elm o k r) u F =
     let i = shown-ink (G .lines) d o (F .1) in
     let e = append-assoc (flat (suc d) k) (flat d r) u in
     let inner : drawn k (view G ((flat (suc d) k ++ flat d r) ++ u)) ≡ paint (lookupIn (G .lines)) (marksIn (G .lines)) k = rw e (view-drawn G (suc d) k (flat d r ++ u) (F .2)) in
-    let others : drop (size k) (view G ((flat (suc d) k ++ flat d r) ++ u)) ≡ view G (flat d r ++ u) = rw (e, ← (length-flat (suc d) k)) (view-drop G (flat (suc d) k) (flat d r ++ u)) in
+    let others : drop (size k) (view G ((flat (suc d) k ++ flat d r) ++ u)) ≡ view G (flat d r ++ u)
+    = rw (e, ← (length-flat (suc d) k)) (view-drop G (flat (suc d) k) (flat d r ++ u)) in
     rw (i .0, i .1, i .2, inner, others, view-drawn G d r u (F .3))
 
 -- the shown trees, read from their lines

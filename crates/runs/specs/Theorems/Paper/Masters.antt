@@ -145,7 +145,8 @@ lines-shown : (all : List Numbered) (most k : ℕ) (ls : List Line) → boundsFr
 unfolding boundsFrom placed whole numberedFrom shownLine
 lines-shown all most k [] h f = refl
 lines-shown all most k (l ∷ ls) h f =
-    go (placed most k l) refl h (λ q. lines-shown all (depthAfter l) (suc k) ls q (λ i b. ap (lineOf all) (let e : suc k + i ≡ k + suc i = omega arith in e) ∙ f (suc i) (omega arith)))
+    go (placed most k l) refl h
+    (λ q. lines-shown all (depthAfter l) (suc k) ls q (λ i b. ap (lineOf all) (let e : suc k + i ≡ k + suc i = omega arith in e) ∙ f (suc i) (omega arith)))
   where
     own : lineOf all k ≡ l
     own = ap (lineOf all) (let e : k ≡ k + 0 = omega arith in e) ∙ f 0 (omega arith)
@@ -223,7 +224,9 @@ gathered-from k [] rs i h = absurd (omega arith)
 gathered-from k (l ∷ ls) rs zero h =
     rw (eq-eqb (k + 0) k (omega arith), gathered-before (suc k) (k + 0) ls (restOf rs) (omega arith)) (unit-right (firstOf rs))
 gathered-from k (l ∷ ls) rs (suc i) h =
-    rw (ne-eqb (k + suc i) k (λ e. omega arith)) (unit-left (gathered (k + suc i) (whole (numberedFrom (suc k) ls)) (restOf rs)) ∙ ap (λ (n : ℕ). gathered n (whole (numberedFrom (suc k) ls)) (restOf rs)) (let e : k + suc i ≡ suc k + i = omega arith in e)
+    rw (ne-eqb (k + suc i) k (λ e. omega arith))
+    (unit-left (gathered (k + suc i) (whole (numberedFrom (suc k) ls)) (restOf rs))
+    ∙ ap (λ (n : ℕ). gathered n (whole (numberedFrom (suc k) ls)) (restOf rs)) (let e : k + suc i ≡ suc k + i = omega arith in e)
     ∙ gathered-from (suc k) ls (restOf rs) i (omega arith))
 
 gathered-past : (k m : ℕ) (ls : List Line) (rs : List Standing) → k + length ls ≤ m → gathered m (whole (numberedFrom k ls)) rs ≡ untouched

@@ -11,16 +11,22 @@ use Rattle.runs.specs.declared.stop.Stop.{Stop}
 use Rattle.runs.specs.declared.stop.Stop.the-variants.{Source, Size}
 use Rattle.runs.specs.Results.{Result, gives, stops, ensure}
 use Rattle.runs.specs.Results.{_>>=_ as _⊳_, _>>_ as _⊵_}
-use Rattle.runs.specs.Programs.{equals, Transformation, source, nothing, text, tag, slot, contents, within, andThen, beside, each, choose, bind, Test, compares, tagged, isElement}
+use Rattle.runs.specs.Programs.{equals, Transformation, source, nothing, text, tag, slot, contents, within}
+use Rattle.runs.specs.Programs.{andThen, beside, each, choose, bind, Test, compares, tagged, isElement}
 use Rattle.runs.specs.Showing.{Shown, Answer, shown, answer, oneTop, oneElement, oneText, bounded, inTurn, verdict, show, test}
 use Rattle.runs.specs.Reading.{Room}
-use Rattle.runs.specs.Theorems.Combinators.{Run, Asking, sourceRun, madeRun, slotRun, contentsRun, withinRun, thenRun, besideRun, eachRun, chooseRun, bindRun, comparesAsk, plainAsk}
+use Rattle.runs.specs.Theorems.Combinators.{Run, Asking, sourceRun, madeRun, slotRun, contentsRun, withinRun}
+use Rattle.runs.specs.Theorems.Combinators.{thenRun, besideRun, eachRun, chooseRun, bindRun, comparesAsk, plainAsk}
 use Rattle.runs.specs.Trees.{Sound, SoundTest}
 use Rattle.runs.specs.Paper.Data.{Sequence, none, _⧺_, May, fail, got, _>>=_, theString, theItem}
-use Rattle.runs.specs.Paper.Semantics.{Forward, xid-forward, xvar-forward, xchild-forward, xsetcnt-forward, xseq-forward, xpar-forward, onEach, xmap-forward, branch, xif-forward, xlet-forward, xeq-forward, xwithtag-forward, xiselement-forward, forward, asks}
+use Rattle.runs.specs.Paper.Semantics.{Forward, xid-forward, xvar-forward, xchild-forward, xsetcnt-forward, xseq-forward, xpar-forward, onEach}
+use Rattle.runs.specs.Paper.Semantics.{xmap-forward, branch, xif-forward, xlet-forward, xeq-forward, xwithtag-forward, xiselement-forward, forward, asks}
 use Rattle.runs.specs.Paper.Semantics.{Asking as Predicated}
 use Rattle.runs.specs.Paper.Programs.{written, asked}
-use Rattle.runs.specs.Theorems.Paper.Trees.{treesIn, value-trees, right-trees, find-trees, Trees, nil, txt, elm, at, flat, _⊹_, Scope, flatSlots, names, flat-append, flat-raised, itemsOf, items-flat, paint, paintAll, paint-append, Right, RightAll, right-append, ElementView, isElm, notElm, element-view, TextView, isTxt, notTxt, text-view, ItemView, isItem, notItem, item-view}
+use Rattle.runs.specs.Theorems.Paper.Trees.{treesIn, value-trees, right-trees, find-trees, Trees, nil, txt, elm, at, flat, _⊹_}
+use Rattle.runs.specs.Theorems.Paper.Trees.{Scope, flatSlots, names, flat-append, flat-raised, itemsOf, items-flat, paint}
+use Rattle.runs.specs.Theorems.Paper.Trees.{paintAll, paint-append, Right, RightAll, right-append, ElementView, isElm, notElm}
+use Rattle.runs.specs.Theorems.Paper.Trees.{element-view, TextView, isTxt, notTxt, text-view, ItemView, isItem, notItem, item-view}
 
 module _ (look : Lookup) (marks : ℕ → ℕ) where
   abbrev pt : Trees → Sequence
@@ -148,7 +154,8 @@ module _ (look : Lookup) (marks : ℕ → ℕ) where
   items-agree e f q H (txt o r) G n =
       turn-agrees e n (f (flat 0 (txt o nil))) (map f (itemsOf r)) (q (pt (txt o nil))) (onEach q (pt r)) (H (txt o nil) (G .0, G .1, tt)) (items-agree e f q H r (G .2))
   items-agree e f q H (elm o k r) G n =
-      turn-agrees e n (f (flat 0 (elm o k nil))) (map f (itemsOf r)) (q (pt (elm o k nil))) (onEach q (pt r)) (H (elm o k nil) (G .0, G .1, G .2, tt)) (items-agree e f q H r (G .3))
+      turn-agrees e n (f (flat 0 (elm o k nil))) (map f (itemsOf r)) (q (pt (elm o k nil)))
+      (onEach q (pt r)) (H (elm o k nil) (G .0, G .1, G .2, tt)) (items-agree e f q H r (G .3))
 
   each-agrees : (ns : List ℕ) (e : ℕ) (run : Run) (fwd : Forward) → Shows ns run fwd → Shows ns (eachRun e run) (xmap-forward fwd)
   each-agrees ns e run fwd X C s E f F = rw (items-flat f) (items-agree e (run (flatSlots C)) (fwd (paintAll look marks C)) (X C s E) f F 0)
@@ -225,7 +232,8 @@ module _ (look : Lookup) (marks : ℕ → ℕ) where
         beside-agrees (room .slots) e (show look X) (show look Y) (forward (written X)) (forward (written Y)) (shows-forward X room (s .0)) (shows-forward Y room (s .1))
     shows-forward (each e X) room s = each-agrees (room .slots) e (show look X) (forward (written X)) (shows-forward X _ (s .1))
     shows-forward (choose e P X Y) room s =
-        choose-agrees (room .slots) (test look P) (asks (asked P)) (show look X) (show look Y) (forward (written X)) (forward (written Y)) (tests-forward P room (s .0)) (shows-forward X room (s .1)) (shows-forward Y room (s .2))
+        choose-agrees (room .slots) (test look P) (asks (asked P)) (show look X) (show look Y) (forward (written X))
+        (forward (written Y)) (tests-forward P room (s .0)) (shows-forward X room (s .1)) (shows-forward Y room (s .2))
     shows-forward (bind e k X) room s = bind-agrees (room .slots) k (show look X) (forward (written X)) (shows-forward X _ (s .1))
 
     pub tests-forward : (P : Test) (room : Room) → SoundTest P room → Answers (room .slots) (test look P) (asks (asked P))

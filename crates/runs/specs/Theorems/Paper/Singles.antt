@@ -21,7 +21,8 @@ use Rattle.runs.specs.Paper.Operators.{Backward}
 use Rattle.runs.specs.Paper.Semantics.{Forward, updated}
 use Rattle.runs.specs.Paper.Semantics.{xid-forward, xvar-forward, xchild-forward, xsetcnt-forward, xlet-forward}
 use Rattle.runs.specs.Paper.Semantics.{xid-backward, xvar-backward, xchild-backward, xsetcnt-backward, xlet-backward}
-use Rattle.runs.specs.Theorems.Paper.Trees.{treesIn, value-trees, right-trees, find-trees, on-elm, Trees, nil, elm, at, flat, Scope, flatSlots, names, flat-raised, flat-lowered, fromOrigin, paint, paintAll, Right}
+use Rattle.runs.specs.Theorems.Paper.Trees.{treesIn, value-trees, right-trees, find-trees, on-elm, Trees, nil, elm, at, flat}
+use Rattle.runs.specs.Theorems.Paper.Trees.{Scope, flatSlots, names, flat-raised, flat-lowered, fromOrigin, paint, paintAll, Right}
 use Rattle.runs.specs.Theorems.Paper.Brushes.{elementFor, brush, Permit, FineElement, clash-joins, sameFrom-refl}
 use Rattle.runs.specs.Theorems.Paper.Places.{at-untouched, noMarks, element-still, fineElement-still, still}
 use Rattle.runs.specs.Theorems.Paper.Ends.{Watched, pairs, said, Ends, went, failed, Backs, PutsBack, ends-at, ends-then, Takes, takes, refuses, slot-takes-in}
@@ -65,8 +66,11 @@ module _ (look : Lookup) (permit : Permit) (watch : ℕ → Bool) where
       })
     where
       go : (ss : List Standing) (us : SlotStandings)
-          → Takes look permit C (updated k (brush look (treesIn k C) ss) (pairs look C us)) (mergedInto k (flatSlots C) ss us) (λ n. gathered n (flat 0 (treesIn k C)) ss ⋓ gatheredSlots n (flatSlots C) us)
-          → Ends look permit C none f (slotPut k (flatSlots C) (flat 0 f) ss us) (xvar-backward k (pairs look C us) (pt f) (brush look (treesIn k C) ss)) (said C (record { value = valueIn k (flatSlots C); compared = [] }) ss us)
+          → Takes look permit C (updated k (brush look (treesIn k C) ss) (pairs look C us))
+          (mergedInto k (flatSlots C) ss us) (λ n. gathered n (flat 0 (treesIn k C)) ss ⋓ gatheredSlots n (flatSlots C) us)
+          → Ends look permit C none f (slotPut k (flatSlots C) (flat 0 f) ss us)
+          (xvar-backward k (pairs look C us) (pt f) (brush look (treesIn k C) ss))
+          (said C (record { value = valueIn k (flatSlots C); compared = [] }) ss us)
       go ss us (takes e B) = let u = still permit look f (allOver untouched (flat 0 f)) (at-untouched (flat 0 f)) in went (rw (e, u .0)) (u .1) B
       go ss us (refuses e n c) = failed (rw e) n (rw (value-trees k C, unit-right (gathered n (flat 0 (treesIn k C)) ss ⋓ gatheredSlots n (flatSlots C) us)) c)
 
@@ -111,7 +115,8 @@ module _ (look : Lookup) (permit : Permit) (watch : ℕ → Bool) where
     where
       inner : (w : Origin) (k : Trees) (a : Shown) (g : Trees) (ss : List Standing) (us : SlotStandings) → FineElement permit w (firstOf ss)
           → Ends look permit C none k (put (flatSlots C) (flat 0 k) (restOf ss) us) (bwd (pairs look C us) (pt k) (brush look g (restOf ss))) (said C a (restOf ss) us)
-          → Ends look permit C none (elm w k nil) (withinPut put (flatSlots C) (flat 0 (elm w k nil)) ss us) (xsetcnt-backward bwd (pairs look C us) (pt (elm w k nil)) (brush look (elm w g nil) ss))
+          → Ends look permit C none (elm w k nil) (withinPut put (flatSlots C) (flat 0 (elm w k nil)) ss us)
+          (xsetcnt-backward bwd (pairs look C us) (pt (elm w k nil)) (brush look (elm w g nil) ss))
           (said C (record { value = at 0 w ∷ raised (a .value); compared = a .compared }) ss us)
       inner w k a g ss us G E =
           let b = put (flatSlots C) (flat 0 k) (restOf ss) us in
@@ -122,8 +127,10 @@ module _ (look : Lookup) (permit : Permit) (watch : ℕ → Bool) where
           (said C (record { value = at 0 w ∷ raised (a .value); compared = a .compared }) ss us)
           (ap (λ (z : Value). back (firstOf ss ∷ put (flatSlots C) z (restOf ss) us .inSource) (put (flatSlots C) z (restOf ss) us .inSlots)) v)
           (rw (sameText-refl (bytesOf look w), sameFrom-refl w))
-          (ends-then look permit C none k (elm w k nil) b (back (firstOf ss ∷ b .inSource) (b .inSlots)) (bwd (pairs look C us) (pt k) (brush look g (restOf ss))) (said C a (restOf ss) us)
-          (said C (record { value = at 0 w ∷ raised (a .value); compared = a .compared }) ss us) (λ r. got (elt (bytesOf look w) (elementFor w (firstOf ss)) (fromOrigin w) (r .0) none, r .1)) E
+          (ends-then look permit C none k (elm w k nil) b (back (firstOf ss ∷ b .inSource) (b .inSlots))
+          (bwd (pairs look C us) (pt k) (brush look g (restOf ss))) (said C a (restOf ss) us)
+          (said C (record { value = at 0 w ∷ raised (a .value); compared = a .compared }) ss us)
+          (λ r. got (elt (bytesOf look w) (elementFor w (firstOf ss)) (fromOrigin w) (r .0) none, r .1)) E
           (λ n c.
           let own = only (isFrom n w) (firstOf ss) in
           rw (gathered-raised n (a .value) (restOf ss))

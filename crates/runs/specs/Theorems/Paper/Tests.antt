@@ -23,10 +23,12 @@ use Rattle.runs.specs.Paper.Operators.{split, Backward, Guard}
 use Rattle.runs.specs.Paper.Semantics.{Forward}
 use Rattle.runs.specs.Paper.Semantics.{xeq-forward, xwithtag-forward, xiselement-forward}
 use Rattle.runs.specs.Paper.Semantics.{xeq-backward, xwithtag-backward, xiselement-backward}
-use Rattle.runs.specs.Theorems.Paper.Trees.{on-elm, on-txt, Trees, nil, txt, at, flat, Scope, flatSlots, paint, paintAll, TextView, isTxt, notTxt, text-view, ItemView, isItem, notItem, item-view}
+use Rattle.runs.specs.Theorems.Paper.Trees.{on-elm, on-txt, Trees, nil, txt, at, flat, Scope, flatSlots, paint, paintAll}
+use Rattle.runs.specs.Theorems.Paper.Trees.{TextView, isTxt, notTxt, text-view, ItemView, isItem, notItem, item-view}
 use Rattle.runs.specs.Theorems.Paper.Brushes.{brush, Permit, FineText, Fine, FineAll, clash-stays, clash-joins}
 use Rattle.runs.specs.Theorems.Paper.Places.{noMarks}
-use Rattle.runs.specs.Theorems.Paper.Ends.{Watched, watched-left, watched-right, pairs, firsts-pairs, said, Ends, went, failed, Backs, TestBacks, PutsBack, TestPutsBack, Guarded, passes, stopped, Guarding, ends-at, ends-then}
+use Rattle.runs.specs.Theorems.Paper.Ends.{Watched, watched-left, watched-right, pairs, firsts-pairs, said, Ends, went, failed, Backs}
+use Rattle.runs.specs.Theorems.Paper.Ends.{TestBacks, PutsBack, TestPutsBack, Guarded, passes, stopped, Guarding, ends-at, ends-then}
 
 module _ (look : Lookup) (permit : Permit) (watch : ℕ → Bool) where
   abbrev pt : Trees → Sequence
@@ -47,7 +49,8 @@ module _ (look : Lookup) (permit : Permit) (watch : ℕ → Bool) where
       record { forth = ap (λ (q : Answer). got (q .yes)) z; back = λ rs us G E. went refl G E })
       f F h
 
-  pub element-back : (ns : List ℕ) (e : ℕ) → TestPutsBack look permit watch ns (plainAsk (oneTop e) (λ x. elementOf look (x .top .origin))) sourcePut xiselement-forward xiselement-backward
+  pub element-back : (ns : List ℕ) (e : ℕ)
+      → TestPutsBack look permit watch ns (plainAsk (oneTop e) (λ x. elementOf look (x .top .origin))) sourcePut xiselement-forward xiselement-backward
   element-back ns e C s R f F p h W = go (item-view look noMarks e f F)
     where
       go : ItemView look noMarks e f → TestBacks look permit C f p sourcePut xiselement-forward xiselement-backward
@@ -79,7 +82,9 @@ module _ (look : Lookup) (permit : Permit) (watch : ℕ → Bool) where
               let inner = said C a (locked ∷ []) us in
               let split : (n : ℕ) → all n ≡ own n ⋓ inner n = λ n. parts n rs us in
               ends-at look permit C none (txt w nil) end end (xeq-backward guard fwd bwd (pairs look C us) (pt (txt w nil)) (brush look (txt w nil) rs))
-              (bwd (pairs look C us) none (brush look (A .g) (locked ∷ [])) >>= λ r. provided (isNone (r .0)) >> (guard (brush look (txt w nil) rs) (bytesOf look w) >>= λ Q. got (Q, r .1))) all refl
+              (bwd (pairs look C us) none (brush look (A .g) (locked ∷ []))
+              >>= λ r. provided (isNone (r .0)) >> (guard (brush look (txt w nil) rs) (bytesOf look w) >>= λ Q. got (Q, r .1)))
+              all refl
               (rw (firsts-pairs look C us, A .forth, z, G .fresh w′))
               (ends-then look permit C none nil (txt w nil) b end (bwd (pairs look C us) none (brush look (A .g) (locked ∷ []))) inner all
               (λ r. provided (isNone (r .0)) >> (guard (brush look (txt w nil) rs) (bytesOf look w) >>= λ Q. got (Q, r .1)))
@@ -89,21 +94,32 @@ module _ (look : Lookup) (permit : Permit) (watch : ℕ → Bool) where
         }
       where
         ours : Watched watch (numberOf w)
-        ours = watched-left watch (numberOf w) (numberOf w′) (watched-right watch (a .compared) (numberOf w ++ numberOf w′) (subst⁻¹ (λ (q : Answer). Watched watch (q .compared)) ep W))
+        ours =
+            watched-left watch (numberOf w) (numberOf w′)
+            (watched-right watch (a .compared) (numberOf w ++ numberOf w′) (subst⁻¹ (λ (q : Answer). Watched watch (q .compared)) ep W))
 
-        guarded : (rs : List Standing) (b : Back) (all : ℕ → Standing) → ((n : ℕ) → isClash (only (isFrom n w) (firstOf rs) ⋓ only (isFrom n w) locked) ≡ true → isClash (all n) ≡ true)
+        guarded : (rs : List Standing) (b : Back) (all : ℕ → Standing)
+            → ((n : ℕ) → isClash (only (isFrom n w) (firstOf rs) ⋓ only (isFrom n w) locked) ≡ true → isClash (all n) ≡ true)
             → FineAll permit C (b .inSlots) → Guarded look permit watch guard w (firstOf rs)
-            → Ends look permit C none (txt w nil) (back (merged rs (locked ∷ [])) (b .inSlots)) (guard (brush look (txt w nil) rs) (bytesOf look w) >>= λ Q. got (Q, pairs look C (b .inSlots))) all
+            → Ends look permit C none (txt w nil) (back (merged rs (locked ∷ [])) (b .inSlots))
+            (guard (brush look (txt w nil) rs) (bytesOf look w) >>= λ Q. got (Q, pairs look C (b .inSlots))) all
         guarded rs b all m E (passes e K) =
             let first = merged-first rs (locked ∷ []) in
             went (rw (e, first)) (subst⁻¹ (FineText permit w) first K, tt) E
         guarded rs b all m E (stopped e n c) = failed (rw e) n (m n c)
 
         parts : (n : ℕ) (rs : List Standing) (us : SlotStandings)
-            → said C (record { value = flat 0 (txt w nil); compared = p .compared }) rs us n ≡ (only (isFrom n w) (firstOf rs) ⋓ only (isFrom n w) locked) ⋓ said C a (locked ∷ []) us n
+            → said C (record { value = flat 0 (txt w nil); compared = p .compared }) rs us n
+            ≡ (only (isFrom n w) (firstOf rs) ⋓ only (isFrom n w) locked) ⋓ said C a (locked ∷ []) us n
         parts n rs us =
             ap (λ (q : Answer). said C (record { value = flat 0 (txt w nil); compared = q .compared }) rs us n) (sym ep)
-            ∙ rw (lock-append n (a .compared) (numberOf w ++ numberOf w′), lock-append n (numberOf w) (numberOf w′), lock-number n w, lock-number n w′, ap (λ (v : Value). gathered n v (locked ∷ [])) (A .flatIs ∙ ap (flat 0) z))
+            ∙ rw (
+              lock-append n (a .compared) (numberOf w ++ numberOf w′),
+              lock-append n (numberOf w) (numberOf w′),
+              lock-number n w,
+              lock-number n w′,
+              ap (λ (v : Value). gathered n v (locked ∷ [])) (A .flatIs ∙ ap (flat 0) z),
+            )
             (settle (only (isFrom n w) (firstOf rs)) (only (isFrom n w) locked) (only (isFrom n w′) locked) (gatheredSlots n (flatSlots C) us) (lock n (a .compared)))
           where
             settle : (s x y e l : Standing) → s ⋓ untouched ⋓ e ⋓ (l ⋓ (x ⋓ y)) ≡ (s ⋓ x) ⋓ (y ⋓ untouched ⋓ e ⋓ l)
@@ -128,13 +144,19 @@ module _ (look : Lookup) (permit : Permit) (watch : ℕ → Bool) where
       where
         one : (w : Origin) (a : Shown) (y : Node) (A : Backs look permit C nil a put fwd bwd) → oneText look e (a .value) ≡ gives y
             → Watched watch (a .compared ++ (numberOf w ++ numberOf (y .origin)))
-            → TestBacks look permit C (txt w nil) (record { yes = sameText (bytesOf look w) (bytesOf look (y .origin)); compared = a .compared ++ (numberOf w ++ numberOf (y .origin)) }) (comparesPut put) (xeq-forward fwd) (xeq-backward guard fwd bwd)
+            → TestBacks look permit C (txt w nil)
+            (record { yes = sameText (bytesOf look w) (bytesOf look (y .origin)); compared = a .compared ++ (numberOf w ++ numberOf (y .origin)) })
+            (comparesPut put) (xeq-forward fwd) (xeq-backward guard fwd bwd)
         one w a y A t W = go (text-view look noMarks e (A .g) (A .right))
           where
             go : TextView look noMarks e (A .g)
-                → TestBacks look permit C (txt w nil) (record { yes = sameText (bytesOf look w) (bytesOf look (y .origin)); compared = a .compared ++ (numberOf w ++ numberOf (y .origin)) }) (comparesPut put) (xeq-forward fwd) (xeq-backward guard fwd bwd)
+                → TestBacks look permit C (txt w nil)
+                (record { yes = sameText (bytesOf look w) (bytesOf look (y .origin)); compared = a .compared ++ (numberOf w ++ numberOf (y .origin)) })
+                (comparesPut put) (xeq-forward fwd) (xeq-backward guard fwd bwd)
             go (notTxt u q) = absurd (no-gives (Source e) y (sym u ∙ ap (oneText look e) (sym (A .flatIs)) ∙ t))
             go (isTxt w′ z u q) =
-                texts-back C put fwd bwd w w′ a (record { yes = sameText (bytesOf look w) (bytesOf look (y .origin)); compared = a .compared ++ (numberOf w ++ numberOf (y .origin)) }) A z
+                texts-back C put fwd bwd w w′ a
+                (record { yes = sameText (bytesOf look w) (bytesOf look (y .origin)); compared = a .compared ++ (numberOf w ++ numberOf (y .origin)) })
+                A z
                 (ap (λ (x : Node). record { yes = sameText (bytesOf look w) (bytesOf look (x .origin)); compared = a .compared ++ (numberOf w ++ numberOf (x .origin)) })
                 (gives-inj (at 0 w′) y (sym u ∙ ap (oneText look e) (sym (A .flatIs)) ∙ t))) W

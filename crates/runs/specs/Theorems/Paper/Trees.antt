@@ -294,7 +294,8 @@ module _ (look : Lookup) (marks : ℕ → ℕ) where
 
   -- it is enough to know it of an element
   pub on-elm : (e : ℕ) (P : Trees → Type 0) → ((f : Trees) → oneElement look e (flat 0 f) ≡ stops (Source e) → P f)
-      → ((w : Origin) (k : Trees) → elementOf look w ≡ true → Numbering w → Right look k → oneElement look e (flat 0 (elm w k nil)) ≡ gives (record { top = at 0 w; inner = flat 0 k }) → P (elm w k nil))
+      → ((w : Origin) (k : Trees) → elementOf look w ≡ true → Numbering w → Right look k
+      → oneElement look e (flat 0 (elm w k nil)) ≡ gives (record { top = at 0 w; inner = flat 0 k }) → P (elm w k nil))
       → (f : Trees) → Right look f → P f
   on-elm e P bad good f F = go (element-view e f F)
     where

@@ -256,7 +256,8 @@ unfolding boundsFrom placed whole numberedFrom linesIn handedBack standingAt ele
 handed-read all permit s most k [] rs h n f m g F = (tt, tt)
 handed-read all permit s most k (l ∷ ls) rs h n f m g F =
     go (placed most k l) refl h (λ q.
-    handed-read all permit s (depthAfter l) (suc k) ls (restOf rs) q (n .1) (λ i b. ap (lineOf all) (let e : suc k + i ≡ k + suc i = omega arith in e) ∙ f (suc i) (omega arith)) (λ i. m (suc i))
+    handed-read all permit s (depthAfter l) (suc k) ls (restOf rs) q (n .1)
+    (λ i b. ap (lineOf all) (let e : suc k + i ≡ k + suc i = omega arith in e) ∙ f (suc i) (omega arith)) (λ i. m (suc i))
     (λ i b. ap s (let e : suc k + i ≡ k + suc i = omega arith in e) ∙ g (suc i) (omega arith)) (F .1))
   where
     here : k ≡ k + 0

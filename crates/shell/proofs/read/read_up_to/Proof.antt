@@ -6,10 +6,6 @@ use lib.ListN.{length}
 use Rattle.io.proofs.Counting.{counts}
 use Rattle.shell.proofs.read.read_up_to.Statement.{statement}
 use Rattle.shell.proofs.read.read_up_to.Tie as tie
-use Rattle.shell.proofs.read.read_up_to.Reads as reads
-use Rattle.shell.proofs.read.read_up_to.Lts as lts
-use Rattle.io.proofs.count.Reads as count-reads
-use Rattle.libc.proofs.read.Reads as read-reads
 
 abbrev Inv-loop : tie.InvT-loop
 Inv-loop fd buf₀ done₀ buf done = (done ≤ length buf) × (length buf ≡ length buf₀)
@@ -17,99 +13,14 @@ Inv-loop fd buf₀ done₀ buf done = (done ≤ length buf) × (length buf ≡ l
 abbrev μ-loop : tie.MeasureT-loop
 μ-loop fd buf₀ done₀ buf done = length buf - done
 
--- src/read.rt:14:5
-loop-holds : tie.Need-loop-holds Inv-loop μ-loop
-loop-holds c = search needs
-
--- src/read.rt:15:34
-sub-read : tie.Need-sub-read Inv-loop μ-loop
-sub-read c = search needs
-
--- src/read.rt:15:34
-part-read-start : tie.Need-part-read-start Inv-loop μ-loop
-part-read-start c = search needs
-
--- src/read.rt:15:34
-part-read-end : tie.Need-part-read-end Inv-loop μ-loop
-part-read-end c = search needs
-
--- src/read.rt:15:13
-read-requires : tie.Need-read-requires Inv-loop μ-loop
-read-requires c κs = search needs
-
--- src/read.rt:17:13
-same-length : tie.Need-same-length Inv-loop μ-loop
-same-length c = search needs
-
--- src/read.rt:17:13
-returns : tie.Need-returns Inv-loop μ-loop
-returns c = search needs
-
--- src/read.rt:22:32
-sub-count : tie.Need-sub-count Inv-loop μ-loop
-sub-count c = search needs
-
--- src/read.rt:22:32
-part-count-start : tie.Need-part-count-start Inv-loop μ-loop
-part-count-start c = search needs
-
--- src/read.rt:22:32
-part-count-end : tie.Need-part-count-end Inv-loop μ-loop
-part-count-end c = search needs
-
--- src/read.rt:22:13
-count-requires : tie.Need-count-requires Inv-loop μ-loop
-count-requires c κs = search needs
-
--- src/read.rt:26:9
-add-done : tie.Need-add-done Inv-loop μ-loop
-add-done c = search needs
-
--- src/read.rt:14:5
-loop-less : tie.Need-loop-less Inv-loop μ-loop
-loop-less c = search needs
-
--- src/read.rt:14:5
-loop-again : tie.Need-loop-again Inv-loop μ-loop
-loop-again c = search needs
-
--- src/read.rt:10:1
-same-length-2 : tie.Need-same-length-2 Inv-loop μ-loop
-same-length-2 c = search needs
-
--- src/read.rt:10:1
 returns-2 : tie.Need-returns-2 Inv-loop μ-loop
 returns-2 c = counts _ _ (omega arith)
 
--- src/read.rt:10:1
-same-length-3 : tie.Need-same-length-3 Inv-loop μ-loop
-same-length-3 c = search needs
-
--- src/read.rt:10:1
 returns-3 : tie.Need-returns-3 Inv-loop μ-loop
 returns-3 c = counts _ _ (omega arith)
 
 pub read-up-to-spec : {M : Type 1} → statement M
 read-up-to-spec =
-    tie.close
-    (tie.spec
-    Inv-loop
-    μ-loop
-    loop-holds
-    sub-read
-    part-read-start
-    part-read-end
-    read-requires
-    same-length
-    returns
-    sub-count
-    part-count-start
-    part-count-end
-    count-requires
-    add-done
-    loop-less
-    loop-again
-    same-length-2
-    returns-2
-    same-length-3
-    returns-3)
+    tie.close (tie.spec Inv-loop μ-loop (λ c. search needs) (λ c. search needs) (λ c. search needs) (λ c. search needs) (λ c κs. search needs)
+    (λ c. search needs) (λ c. search needs) (λ c. search needs) (λ c. search needs)
+    (λ c. search needs) (λ c κs. search needs) (λ c. search needs) (λ c. search needs) (λ c. search needs) (λ c. search needs) returns-2 (λ c. search needs) returns-3)

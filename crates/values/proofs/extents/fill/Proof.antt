@@ -17,43 +17,35 @@ loop-holds : tie.Need-loop-holds Inv-loop μ-loop
 loop-holds c = let a = c .args in putting-starts (a .work .now) (a .to) _ (a .len) (length-replicate (a .len) (a .word)) (omega arith)
 
 add-work : tie.Need-add-work Inv-loop μ-loop
-add-work c = omega (arith, c .before .loop .inv .most, c .before .loop .inv .long)
+add-work c = let at-loop = c .before in omega (arith, at-loop .loop .inv .most, at-loop .loop .inv .long)
 
 mul-work : tie.Need-mul-work Inv-loop μ-loop
-mul-work c = omega (arith, c .before .loop .inv .most, c .before .loop .inv .long)
+mul-work c = let at-loop = c .before in omega (arith, at-loop .loop .inv .most, at-loop .loop .inv .long)
 
 slice-write-work : tie.Need-slice-write-work Inv-loop μ-loop
-slice-write-work c = omega (arith, c .before .loop .inv .most, c .before .loop .inv .long)
+slice-write-work c = let at-loop = c .before in omega (arith, at-loop .loop .inv .most, at-loop .loop .inv .long)
 
 add-i : tie.Need-add-i Inv-loop μ-loop
-add-i c = omega (arith, c .before .loop .inv .most, c .before .loop .inv .long)
+add-i c = let at-loop = c .before in omega (arith, at-loop .loop .inv .most, at-loop .loop .inv .long)
 
 loop-less : tie.Need-loop-less Inv-loop μ-loop
-loop-less c = omega (arith, c .before .loop .inv .most, c .before .loop .inv .long)
+loop-less c = let at-loop = c .before in omega (arith, at-loop .loop .inv .most, at-loop .loop .inv .long)
 
 loop-again : tie.Need-loop-again Inv-loop μ-loop
 loop-again c =
-    let a = c .before .before .args in
-    putting-goes-on (a .work .now) (a .to) _ (a .len) (length-replicate (a .len) (a .word)) (omega arith) (c .before .loop .inv) (c .loop-test .taken) (sym (getD-replicate (a .len) (c .before .loop .i) (a .word) 0 (c .loop-test .taken)))
+    let at-loop = c .before in
+    let a = at-loop .before .args in
+    putting-goes-on (a .work .now) (a .to) _ (a .len) (length-replicate (a .len) (a .word)) (omega arith) (at-loop .loop .inv) (c .loop-test .taken)
+    (sym (getD-replicate (a .len) (at-loop .loop .i) (a .word) 0 (c .loop-test .taken)))
 
 same-length : tie.Need-same-length Inv-loop μ-loop
 same-length c = c .before .loop .inv .long
 
 returns : tie.Need-returns Inv-loop μ-loop
-returns c = let a = c .before .before .args in putting-ends (a .work .now) (a .to) _ (a .len) (length-replicate (a .len) (a .word)) (omega arith) (c .before .loop .inv) (c .loop-test .left)
+returns c =
+    let a = c .before .before .args in
+    putting-ends (a .work .now) (a .to) _ (a .len) (length-replicate (a .len) (a .word)) (omega arith) (c .before .loop .inv) (c .loop-test .left)
 
 pub fill-spec : {M : Type 1} → statement M
 fill-spec =
-    tie.close
-    (tie.spec
-    Inv-loop
-    μ-loop
-    loop-holds
-    add-work
-    mul-work
-    slice-write-work
-    add-i
-    loop-less
-    loop-again
-    same-length
-    returns)
+    tie.close (tie.spec Inv-loop μ-loop loop-holds add-work mul-work slice-write-work add-i loop-less loop-again same-length returns)

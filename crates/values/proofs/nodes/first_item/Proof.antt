@@ -6,21 +6,9 @@ use borrow.Author.Needs.{needs}
 use Rattle.values.proofs.nodes.first_item.Statement.{statement}
 use Rattle.values.proofs.nodes.first_item.Tie as tie
 
-add-nodes-under : tie.Need-add-nodes-under
-add-nodes-under c = search needs
-
-sub-nodes-under : tie.Need-sub-nodes-under
-sub-nodes-under c = search needs
-
-nodes-under-requires : tie.Need-nodes-under-requires
-nodes-under-requires c κs = search needs
-
-add-result : tie.Need-add-result
-add-result c = search needs
-
 returns : tie.Need-returns
 returns c = record { long = λ made. ap (_+_ 1) (c .nodes-under .ensures .0 made); within = omega (arith, c .nodes-under .ensures .1) }
 
 pub first-item-spec : {M : Type 1} → statement M
 first-item-spec =
-    tie.close (tie.spec add-nodes-under sub-nodes-under nodes-under-requires add-result returns)
+    tie.close (tie.spec (λ c. search needs) (λ c. search needs) (λ c κs. search needs) (λ c. search needs) returns)

@@ -28,32 +28,36 @@ shared-slice-read-if1 : tie.Need-shared-slice-read-if1 Inv-loop μ-loop
 shared-slice-read-if1 c = omega (arith, c .before .before .loop .inv .0)
 
 returns : tie.Need-returns Inv-loop μ-loop
-returns c = let a = c .before .before .before .before .args in λ made. sym (rw (rest-cons made (a .work .now) (a .start) (a .len) (c .before .before .before .loop .i) (c .before .before .before .before .pre) (c .before .before .loop-test .taken)) (deep-here made (getD (a .work .now) (a .start + c .before .before .before .loop .i) 0) _ (c .if1 .taken))) ∙ c .before .before .before .loop .inv .1 made
+returns c =
+    let at-loop = c .before .before .before in
+    let s = at-loop .before in
+    let a = s .args in
+    λ made. sym (rw (rest-cons made (a .work .now) (a .start) (a .len) (at-loop .loop .i) (s .pre) (c .before .before .loop-test .taken))
+    (deep-here made (getD (a .work .now) (a .start + at-loop .loop .i) 0) _ (c .if1 .taken))) ∙ at-loop .loop .inv .1 made
 
 add-i : tie.Need-add-i Inv-loop μ-loop
-add-i c = omega (arith, c .before .before .before .loop .inv .0)
+add-i c = let at-loop = c .before .before .before in omega (arith, at-loop .loop .inv .0)
 
 loop-less : tie.Need-loop-less Inv-loop μ-loop
-loop-less c = omega (arith, c .before .before .before .loop .inv .0)
+loop-less c = let at-loop = c .before .before .before in omega (arith, at-loop .loop .inv .0)
 
 loop-again : tie.Need-loop-again Inv-loop μ-loop
-loop-again c = let a = c .before .before .before .before .args in (omega arith, λ made. sym (rw (rest-cons made (a .work .now) (a .start) (a .len) (c .before .before .before .loop .i) (c .before .before .before .before .pre) (c .before .before .loop-test .taken)) (deep-later made (getD (a .work .now) (a .start + c .before .before .before .loop .i) 0) _ (c .if1 .left))) ∙ c .before .before .before .loop .inv .1 made)
+loop-again c =
+    let at-loop = c .before .before .before in
+    let s = at-loop .before in
+    let a = s .args in (
+      omega arith,
+      λ made. sym (rw (rest-cons made (a .work .now) (a .start) (a .len) (at-loop .loop .i) (s .pre)
+          (c .before .before .loop-test .taken)) (deep-later made (getD (a .work .now) (a .start + at-loop .loop .i) 0) _ (c .if1 .left))) ∙ at-loop .loop .inv .1 made,
+    )
 
 returns-2 : tie.Need-returns-2 Inv-loop μ-loop
-returns-2 c = let a = c .before .before .args in λ made. sym (rw (rest-none made (a .work .now) (a .start) (a .len) (c .before .loop .i) (c .before .before .pre) (c .loop-test .left)) deep-none) ∙ c .before .loop .inv .1 made
+returns-2 c =
+    let at-loop = c .before in
+    let s = at-loop .before in
+    let a = s .args in
+    λ made. sym (rw (rest-none made (a .work .now) (a .start) (a .len) (at-loop .loop .i) (s .pre) (c .loop-test .left)) deep-none) ∙ at-loop .loop .inv .1 made
 
 pub is-shallow-spec : {M : Type 1} → statement M
 is-shallow-spec =
-    tie.close
-    (tie.spec
-    Inv-loop
-    μ-loop
-    loop-holds
-    add-if1
-    mul-if1
-    shared-slice-read-if1
-    returns
-    add-i
-    loop-less
-    loop-again
-    returns-2)
+    tie.close (tie.spec Inv-loop μ-loop loop-holds add-if1 mul-if1 shared-slice-read-if1 returns add-i loop-less loop-again returns-2)

@@ -8,15 +8,12 @@ use Rattle.values.specs.Theorems.WordLaws.{length-value}
 use Rattle.values.proofs.nodes.no_top.Statement.{statement}
 use Rattle.values.proofs.nodes.no_top.Tie as tie
 
-nodes-under-requires : tie.Need-nodes-under-requires
-nodes-under-requires c κs = search needs
-
 returns : tie.Need-returns
 returns c =
-    let a = c .before .before .args in
-    λ made.
-    ap₂ eqb (c .nodes-under .ensures .0 made) (sym (length-value made (a .work .now) (a .start) (a .len) (c .before .before .pre)))
-    ∙ all-under (valueAt made (a .work .now) (a .start) (a .len))
+    let s = c .before .before in
+    let a = s .args in
+    λ made. ap₂ eqb (c .nodes-under .ensures .0 made) (sym (length-value made (a .work .now) (a .start) (a .len) (s .pre))) ∙ all-under
+    (valueAt made (a .work .now) (a .start) (a .len))
 
 pub no-top-spec : {M : Type 1} → statement M
-no-top-spec = tie.close (tie.spec nodes-under-requires returns)
+no-top-spec = tie.close (tie.spec (λ c κs. search needs) returns)

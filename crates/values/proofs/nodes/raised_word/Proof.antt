@@ -5,9 +5,6 @@ use Rattle.values.specs.Words.{raisedWord}
 use Rattle.values.proofs.nodes.raised_word.Statement.{statement}
 use Rattle.values.proofs.nodes.raised_word.Tie as tie
 
-add-result : tie.Need-add-result
-add-result c = search needs
-
 returns : tie.Need-returns
 unfolding raisedWord
 returns c = rw (lt-ltb _ 0xFFFF0000 (c .if1 .taken))
@@ -17,4 +14,4 @@ unfolding raisedWord
 returns-2 c = rw (le-ltb _ 0xFFFF0000 (c .if1 .left))
 
 pub raised-word-spec : {M : Type 1} → statement M
-raised-word-spec = tie.close (tie.spec add-result returns returns-2)
+raised-word-spec = tie.close (tie.spec (λ c. search needs) returns returns-2)

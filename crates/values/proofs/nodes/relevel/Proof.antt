@@ -22,42 +22,42 @@ loop-holds c =
     putting-starts (a .work .now) (a .to) _ (a .len) all (omega arith)
 
 add-leveled-word : tie.Need-add-leveled-word Inv-loop μ-loop
-add-leveled-word c = omega (arith, c .before .loop .inv .most, c .before .loop .inv .long)
+add-leveled-word c = let at-loop = c .before in omega (arith, at-loop .loop .inv .most, at-loop .loop .inv .long)
 
 mul-leveled-word : tie.Need-mul-leveled-word Inv-loop μ-loop
-mul-leveled-word c = omega (arith, c .before .loop .inv .most, c .before .loop .inv .long)
+mul-leveled-word c = let at-loop = c .before in omega (arith, at-loop .loop .inv .most, at-loop .loop .inv .long)
 
 slice-read-leveled-word : tie.Need-slice-read-leveled-word Inv-loop μ-loop
-slice-read-leveled-word c = omega (arith, c .before .before .loop .inv .most, c .before .before .loop .inv .long)
-
-leveled-word-requires : tie.Need-leveled-word-requires Inv-loop μ-loop
-leveled-word-requires c κs = search needs
+slice-read-leveled-word c = let at-loop = c .before .before in omega (arith, at-loop .loop .inv .most, at-loop .loop .inv .long)
 
 add-work : tie.Need-add-work Inv-loop μ-loop
-add-work c = omega (arith, c .before .before .before .loop .inv .most, c .before .before .before .loop .inv .long)
+add-work c = let at-loop = c .before .before .before in omega (arith, at-loop .loop .inv .most, at-loop .loop .inv .long)
 
 mul-work : tie.Need-mul-work Inv-loop μ-loop
-mul-work c = omega (arith, c .before .before .before .loop .inv .most, c .before .before .before .loop .inv .long)
+mul-work c = let at-loop = c .before .before .before in omega (arith, at-loop .loop .inv .most, at-loop .loop .inv .long)
 
 slice-write-work : tie.Need-slice-write-work Inv-loop μ-loop
-slice-write-work c = omega (arith, c .before .before .before .loop .inv .most, c .before .before .before .loop .inv .long)
+slice-write-work c = let at-loop = c .before .before .before in omega (arith, at-loop .loop .inv .most, at-loop .loop .inv .long)
 
 add-i : tie.Need-add-i Inv-loop μ-loop
-add-i c = omega (arith, c .before .before .before .loop .inv .most, c .before .before .before .loop .inv .long)
+add-i c = let at-loop = c .before .before .before in omega (arith, at-loop .loop .inv .most, at-loop .loop .inv .long)
 
 loop-less : tie.Need-loop-less Inv-loop μ-loop
-loop-less c = omega (arith, c .before .before .before .loop .inv .most, c .before .before .before .loop .inv .long)
+loop-less c = let at-loop = c .before .before .before in omega (arith, at-loop .loop .inv .most, at-loop .loop .inv .long)
 
 loop-again : tie.Need-loop-again Inv-loop μ-loop
 loop-again c =
-    let a = c .before .before .before .before .before .args in
+    let in-loop = c .before .before in
+    let at-loop = in-loop .before in
+    let s = at-loop .before .before in
+    let a = s .args in
     let g = leveledWord (a .up) in
-    let i = c .before .before .before .loop .i in
+    let i = at-loop .loop .i in
     let all = mapped-long g (a .work .now) (a .from) (a .len) (omega arith) in
-    let side = apart (a .from) (a .to) (a .len) i (c .before .before .before .before .before .pre .1) (c .before .before .loop-test .taken) in
-    let unread = putting-reads (a .work .now) (a .to) _ (a .len) all (omega arith) (c .before .before .before .loop .inv) (a .from + i) side in
-    putting-goes-on (a .work .now) (a .to) _ (a .len) all (omega arith) (c .before .before .before .loop .inv) (c .before .before .loop-test .taken)
-    (c .leveled-word .ensures ∙ (ap g unread ∙ sym (mapped-at g (a .work .now) (a .from) (a .len) i (c .before .before .loop-test .taken) (omega arith))))
+    let side = apart (a .from) (a .to) (a .len) i (s .pre .1) (in-loop .loop-test .taken) in
+    let unread = putting-reads (a .work .now) (a .to) _ (a .len) all (omega arith) (at-loop .loop .inv) (a .from + i) side in
+    putting-goes-on (a .work .now) (a .to) _ (a .len) all (omega arith) (at-loop .loop .inv) (in-loop .loop-test .taken)
+    (c .leveled-word .ensures ∙ (ap g unread ∙ sym (mapped-at g (a .work .now) (a .from) (a .len) i (in-loop .loop-test .taken) (omega arith))))
 
 same-length : tie.Need-same-length Inv-loop μ-loop
 same-length c = c .before .loop .inv .long
@@ -70,20 +70,5 @@ returns c =
 
 pub relevel-spec : {M : Type 1} → statement M
 relevel-spec =
-    tie.close
-    (tie.spec
-    Inv-loop
-    μ-loop
-    loop-holds
-    add-leveled-word
-    mul-leveled-word
-    slice-read-leveled-word
-    leveled-word-requires
-    add-work
-    mul-work
-    slice-write-work
-    add-i
-    loop-less
-    loop-again
-    same-length
-    returns)
+    tie.close (tie.spec Inv-loop μ-loop loop-holds add-leveled-word mul-leveled-word slice-read-leveled-word (λ c κs. search needs) add-work mul-work
+    slice-write-work add-i loop-less loop-again same-length returns)

@@ -18,74 +18,74 @@ abbrev μ-loop : tie.MeasureT-loop
 μ-loop work₀ to other from len i₀ work i = len - i
 
 loop-holds : tie.Need-loop-holds Inv-loop μ-loop
-loop-holds c = let a = c .before .before .args in putting-starts (a .work .now) (a .to) _ (a .len) (merged-long (part (a .work .now) (a .to) (a .len)) (part (a .other .now) (a .from) (a .len)) (length-part (a .work .now) (a .to) (a .len) (omega arith) ∙ sym (length-part (a .other .now) (a .from) (a .len) (omega arith))) ∙ length-part (a .work .now) (a .to) (a .len) (omega arith)) (omega arith)
+loop-holds c =
+    let a = c .before .before .args in
+    putting-starts (a .work .now) (a .to) _ (a .len)
+    (merged-long (part (a .work .now) (a .to) (a .len)) (part (a .other .now) (a .from) (a .len))
+    (length-part (a .work .now) (a .to) (a .len) (omega arith) ∙ sym (length-part (a .other .now) (a .from) (a .len) (omega arith))) ∙ length-part
+    (a .work .now) (a .to) (a .len) (omega arith)) (omega arith)
 
 add-merge-word : tie.Need-add-merge-word Inv-loop μ-loop
-add-merge-word c = omega (arith, c .before .loop .inv .most, c .before .loop .inv .long)
+add-merge-word c = let at-loop = c .before in omega (arith, at-loop .loop .inv .most, at-loop .loop .inv .long)
 
 mul-merge-word : tie.Need-mul-merge-word Inv-loop μ-loop
-mul-merge-word c = omega (arith, c .before .loop .inv .most, c .before .loop .inv .long)
+mul-merge-word c = let at-loop = c .before in omega (arith, at-loop .loop .inv .most, at-loop .loop .inv .long)
 
 slice-read-merge-word : tie.Need-slice-read-merge-word Inv-loop μ-loop
-slice-read-merge-word c = omega (arith, c .before .before .loop .inv .most, c .before .before .loop .inv .long)
+slice-read-merge-word c = let at-loop = c .before .before in omega (arith, at-loop .loop .inv .most, at-loop .loop .inv .long)
 
 add-merge-word-2 : tie.Need-add-merge-word-2 Inv-loop μ-loop
-add-merge-word-2 c = omega (arith, c .before .before .loop .inv .most, c .before .before .loop .inv .long)
+add-merge-word-2 c = let at-loop = c .before .before in omega (arith, at-loop .loop .inv .most, at-loop .loop .inv .long)
 
 mul-merge-word-2 : tie.Need-mul-merge-word-2 Inv-loop μ-loop
-mul-merge-word-2 c = omega (arith, c .before .before .loop .inv .most, c .before .before .loop .inv .long)
+mul-merge-word-2 c = let at-loop = c .before .before in omega (arith, at-loop .loop .inv .most, at-loop .loop .inv .long)
 
 shared-slice-read-merge-word : tie.Need-shared-slice-read-merge-word Inv-loop μ-loop
-shared-slice-read-merge-word c = omega (arith, c .before .before .before .loop .inv .most, c .before .before .before .loop .inv .long)
-
-merge-word-requires : tie.Need-merge-word-requires Inv-loop μ-loop
-merge-word-requires c κs = search needs
+shared-slice-read-merge-word c = let at-loop = c .before .before .before in omega (arith, at-loop .loop .inv .most, at-loop .loop .inv .long)
 
 add-work : tie.Need-add-work Inv-loop μ-loop
-add-work c = omega (arith, c .before .before .before .before .loop .inv .most, c .before .before .before .before .loop .inv .long)
+add-work c = let at-loop = c .before .before .before .before in omega (arith, at-loop .loop .inv .most, at-loop .loop .inv .long)
 
 mul-work : tie.Need-mul-work Inv-loop μ-loop
-mul-work c = omega (arith, c .before .before .before .before .loop .inv .most, c .before .before .before .before .loop .inv .long)
+mul-work c = let at-loop = c .before .before .before .before in omega (arith, at-loop .loop .inv .most, at-loop .loop .inv .long)
 
 slice-write-work : tie.Need-slice-write-work Inv-loop μ-loop
-slice-write-work c = omega (arith, c .before .before .before .before .loop .inv .most, c .before .before .before .before .loop .inv .long)
+slice-write-work c = let at-loop = c .before .before .before .before in omega (arith, at-loop .loop .inv .most, at-loop .loop .inv .long)
 
 add-i : tie.Need-add-i Inv-loop μ-loop
-add-i c = omega (arith, c .before .before .before .before .loop .inv .most, c .before .before .before .before .loop .inv .long)
+add-i c = let at-loop = c .before .before .before .before in omega (arith, at-loop .loop .inv .most, at-loop .loop .inv .long)
 
 loop-less : tie.Need-loop-less Inv-loop μ-loop
-loop-less c = omega (arith, c .before .before .before .before .loop .inv .most, c .before .before .before .before .loop .inv .long)
+loop-less c = let at-loop = c .before .before .before .before in omega (arith, at-loop .loop .inv .most, at-loop .loop .inv .long)
 
 loop-again : tie.Need-loop-again Inv-loop μ-loop
 loop-again c =
-    let a = c .before .before .before .before .before .before .before .args in
-    putting-goes-on (a .work .now) (a .to) _ (a .len) (merged-long (part (a .work .now) (a .to) (a .len)) (part (a .other .now) (a .from) (a .len)) (length-part (a .work .now) (a .to) (a .len) (omega arith) ∙ sym (length-part (a .other .now) (a .from) (a .len) (omega arith))) ∙ length-part (a .work .now) (a .to) (a .len) (omega arith)) (omega arith) (c .before .before .before .before .loop .inv) (c .before .before .before .loop-test .taken) (c .merge-word .ensures ∙ (ap (λ (x : ℕ). mergedWord x (getD (a .other .now) (a .from + c .before .before .before .before .loop .i) 0)) (putting-reads (a .work .now) (a .to) _ (a .len) (merged-long (part (a .work .now) (a .to) (a .len)) (part (a .other .now) (a .from) (a .len)) (length-part (a .work .now) (a .to) (a .len) (omega arith) ∙ sym (length-part (a .other .now) (a .from) (a .len) (omega arith))) ∙ length-part (a .work .now) (a .to) (a .len) (omega arith)) (omega arith) (c .before .before .before .before .loop .inv) (a .to + c .before .before .before .before .loop .i) (inr (omega arith))) ∙ sym (merged-at (a .work .now) (a .other .now) (a .to) (a .from) (a .len) (c .before .before .before .before .loop .i) (c .before .before .before .loop-test .taken) (omega arith) (omega arith))))
+    let in-loop = c .before .before .before in
+    let at-loop = in-loop .before in
+    let a = at-loop .before .before .before .args in
+    putting-goes-on (a .work .now) (a .to) _ (a .len)
+    (merged-long (part (a .work .now) (a .to) (a .len)) (part (a .other .now) (a .from) (a .len))
+    (length-part (a .work .now) (a .to) (a .len) (omega arith) ∙ sym (length-part (a .other .now) (a .from) (a .len) (omega arith))) ∙ length-part
+    (a .work .now) (a .to) (a .len) (omega arith)) (omega arith) (at-loop .loop .inv) (in-loop .loop-test .taken)
+    (c .merge-word .ensures ∙ (ap (λ (x : ℕ). mergedWord x (getD (a .other .now) (a .from + at-loop .loop .i) 0))
+    (putting-reads (a .work .now) (a .to) _ (a .len)
+    (merged-long (part (a .work .now) (a .to) (a .len)) (part (a .other .now) (a .from) (a .len))
+    (length-part (a .work .now) (a .to) (a .len) (omega arith) ∙ sym (length-part (a .other .now) (a .from) (a .len) (omega arith))) ∙ length-part
+    (a .work .now) (a .to) (a .len) (omega arith)) (omega arith) (at-loop .loop .inv) (a .to + at-loop .loop .i) (inr (omega arith))) ∙ sym
+    (merged-at (a .work .now) (a .other .now) (a .to) (a .from) (a .len) (at-loop .loop .i) (in-loop .loop-test .taken) (omega arith) (omega arith))))
 
 same-length : tie.Need-same-length Inv-loop μ-loop
 same-length c = c .before .loop .inv .long
 
 returns : tie.Need-returns Inv-loop μ-loop
-returns c = let a = c .before .before .before .before .args in putting-ends (a .work .now) (a .to) _ (a .len) (merged-long (part (a .work .now) (a .to) (a .len)) (part (a .other .now) (a .from) (a .len)) (length-part (a .work .now) (a .to) (a .len) (omega arith) ∙ sym (length-part (a .other .now) (a .from) (a .len) (omega arith))) ∙ length-part (a .work .now) (a .to) (a .len) (omega arith)) (omega arith) (c .before .loop .inv) (c .loop-test .left)
+returns c =
+    let a = c .before .before .before .before .args in
+    putting-ends (a .work .now) (a .to) _ (a .len)
+    (merged-long (part (a .work .now) (a .to) (a .len)) (part (a .other .now) (a .from) (a .len))
+    (length-part (a .work .now) (a .to) (a .len) (omega arith) ∙ sym (length-part (a .other .now) (a .from) (a .len) (omega arith))) ∙ length-part
+    (a .work .now) (a .to) (a .len) (omega arith)) (omega arith) (c .before .loop .inv) (c .loop-test .left)
 
 pub merge-from-spec : {M : Type 1} → statement M
 merge-from-spec =
-    tie.close
-    (tie.spec
-    Inv-loop
-    μ-loop
-    loop-holds
-    add-merge-word
-    mul-merge-word
-    slice-read-merge-word
-    add-merge-word-2
-    mul-merge-word-2
-    shared-slice-read-merge-word
-    merge-word-requires
-    add-work
-    mul-work
-    slice-write-work
-    add-i
-    loop-less
-    loop-again
-    same-length
-    returns)
+    tie.close (tie.spec Inv-loop μ-loop loop-holds add-merge-word mul-merge-word slice-read-merge-word add-merge-word-2 mul-merge-word-2
+    shared-slice-read-merge-word (λ c κs. search needs) add-work mul-work slice-write-work add-i loop-less loop-again same-length returns)

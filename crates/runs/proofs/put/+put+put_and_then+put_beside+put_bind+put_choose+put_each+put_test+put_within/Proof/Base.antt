@@ -20,28 +20,28 @@ use Rattle.runs.proofs.put.put_within.Reads as put-within
 use Rattle.runs.proofs.put.put_within.Kinds as put-within-kinds
 
 abbrev pub μ-put : Measures 7 put-kinds.ps ℕ
-μ-put κs a = 2 * a .1 .1 .1 .1 .1 .1 .1 .1 .1 .1 .1 .1 .1 .1 .0 + 1
+μ-put κs a = 2 * a .1 .1 .1 .1 .1 .1 .1 .0 .levels + 1
 
 abbrev pub μ-put-and-then : Measures 7 put-and-then-kinds.ps ℕ
-μ-put-and-then κs a = 2 * a .1 .1 .1 .1 .1 .1 .1 .1 .1 .1 .1 .1 .1 .1 .0
+μ-put-and-then κs a = 2 * a .1 .1 .1 .1 .1 .1 .1 .0 .levels
 
 abbrev pub μ-put-beside : Measures 7 put-beside-kinds.ps ℕ
-μ-put-beside κs a = 2 * a .1 .1 .1 .1 .1 .1 .1 .1 .1 .1 .1 .1 .1 .1 .0
+μ-put-beside κs a = 2 * a .1 .1 .1 .1 .1 .1 .1 .0 .levels
 
 abbrev pub μ-put-bind : Measures 7 put-bind-kinds.ps ℕ
-μ-put-bind κs a = 2 * a .1 .1 .1 .1 .1 .1 .1 .1 .1 .1 .1 .1 .1 .1 .0
+μ-put-bind κs a = 2 * a .1 .1 .1 .1 .1 .1 .1 .0 .levels
 
 abbrev pub μ-put-choose : Measures 7 put-choose-kinds.ps ℕ
-μ-put-choose κs a = 2 * a .1 .1 .1 .1 .1 .1 .1 .1 .1 .1 .1 .1 .1 .1 .0
+μ-put-choose κs a = 2 * a .1 .1 .1 .1 .1 .1 .1 .0 .levels
 
 abbrev pub μ-put-each : Measures 7 put-each-kinds.ps ℕ
-μ-put-each κs a = 2 * a .1 .1 .1 .1 .1 .1 .1 .1 .1 .1 .1 .1 .1 .1 .0
+μ-put-each κs a = 2 * a .1 .1 .1 .1 .1 .1 .1 .0 .levels
 
 abbrev pub μ-put-test : Measures 7 put-test-kinds.ps ℕ
-μ-put-test κs a = 2 * a .1 .1 .1 .1 .1 .1 .1 .1 .1 .1 .1 .1 .0
+μ-put-test κs a = 2 * a .1 .1 .1 .1 .1 .1 .1 .0 .levels
 
 abbrev pub μ-put-within : Measures 7 put-within-kinds.ps ℕ
-μ-put-within κs a = 2 * a .1 .1 .1 .1 .1 .1 .1 .1 .1 .1 .1 .1 .1 .1 .0
+μ-put-within κs a = 2 * a .1 .1 .1 .1 .1 .1 .1 .0 .levels
 
 abbrev pub put-at : ℕ → In 7 put-kinds.ps
 put-at t = and 7 put-kinds.ps (is 7 put-kinds.ps μ-put t) put.Pre

@@ -22,31 +22,31 @@ use Rattle.runs.proofs.show.test_equals.Reads as test-equals
 use Rattle.runs.proofs.show.test_equals.Kinds as test-equals-kinds
 
 abbrev pub μ-show : Measures 6 show-kinds.ps ℕ
-μ-show κs a = 2 * a .1 .1 .1 .1 .1 .1 .1 .1 .1 .1 .1 .0 + 1
+μ-show κs a = 2 * a .1 .1 .1 .1 .1 .1 .0 .levels + 1
 
 abbrev pub μ-show-and-then : Measures 6 show-and-then-kinds.ps ℕ
-μ-show-and-then κs a = 2 * a .1 .1 .1 .1 .1 .1 .1 .1 .1 .1 .1 .0
+μ-show-and-then κs a = 2 * a .1 .1 .1 .1 .1 .1 .0 .levels
 
 abbrev pub μ-show-beside : Measures 6 show-beside-kinds.ps ℕ
-μ-show-beside κs a = 2 * a .1 .1 .1 .1 .1 .1 .1 .1 .1 .1 .1 .0
+μ-show-beside κs a = 2 * a .1 .1 .1 .1 .1 .1 .0 .levels
 
 abbrev pub μ-show-bind : Measures 6 show-bind-kinds.ps ℕ
-μ-show-bind κs a = 2 * a .1 .1 .1 .1 .1 .1 .1 .1 .1 .1 .1 .0
+μ-show-bind κs a = 2 * a .1 .1 .1 .1 .1 .1 .0 .levels
 
 abbrev pub μ-show-choose : Measures 6 show-choose-kinds.ps ℕ
-μ-show-choose κs a = 2 * a .1 .1 .1 .1 .1 .1 .1 .1 .1 .1 .1 .0
+μ-show-choose κs a = 2 * a .1 .1 .1 .1 .1 .1 .0 .levels
 
 abbrev pub μ-show-each : Measures 6 show-each-kinds.ps ℕ
-μ-show-each κs a = 2 * a .1 .1 .1 .1 .1 .1 .1 .1 .1 .1 .1 .0
+μ-show-each κs a = 2 * a .1 .1 .1 .1 .1 .1 .0 .levels
 
 abbrev pub μ-show-within : Measures 6 show-within-kinds.ps ℕ
-μ-show-within κs a = 2 * a .1 .1 .1 .1 .1 .1 .1 .1 .1 .1 .1 .0
+μ-show-within κs a = 2 * a .1 .1 .1 .1 .1 .1 .0 .levels
 
 abbrev pub μ-test : Measures 6 test-kinds.ps ℕ
-μ-test κs a = 2 * a .1 .1 .1 .1 .1 .1 .1 .1 .1 .1 .1 .0 + 1
+μ-test κs a = 2 * a .1 .1 .1 .1 .1 .1 .0 .levels + 1
 
 abbrev pub μ-test-equals : Measures 6 test-equals-kinds.ps ℕ
-μ-test-equals κs a = 2 * a .1 .1 .1 .1 .1 .1 .1 .1 .1 .1 .1 .0
+μ-test-equals κs a = 2 * a .1 .1 .1 .1 .1 .1 .0 .levels
 
 abbrev pub show-at : ℕ → In 6 show-kinds.ps
 show-at t = and 6 show-kinds.ps (is 6 show-kinds.ps μ-show t) show.Pre

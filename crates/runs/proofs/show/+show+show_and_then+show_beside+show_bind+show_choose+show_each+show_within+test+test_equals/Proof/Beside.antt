@@ -1,145 +1,186 @@
 -- The needs of `show_beside`.
 use mathlib.Core.Path.{_∙_}
-use mathlib.Core.List.{List, map}
+use mathlib.Core.List.{List}
 use Prim.Native.Nat.{ℕ, _+_}
 use native.Mathlib.Omega.{arith}
-use borrow.Author.Needs.{needs}
-use Rattle.lines.specs.Entries.{Entry, entryAt}
-use Rattle.lines.specs.Nodes.{nodeAt}
-use Rattle.runs.proofs.ShowEntries.{Facts, facts}
+use Rattle.lines.specs.Entries.{Entry}
+use Rattle.runs.specs.Runs.{entriesOf, linesOf}
+use Rattle.runs.proofs.ShowEntries.{FactsAt, facts}
 use Rattle.runs.proofs.ShowRuns.{Got, got, halted, beside-first, beside-second, beside-large, beside-done}
 use Rattle.runs.proofs.SlotLaws.{bound-higher}
 use Rattle.runs.proofs.Trees.{here, ready-beside}
 use Rattle.lines.specs.Nodes.{Node as Line}
 use Rattle.runs.proofs.show.show.Reads as show
-use Rattle.runs.proofs.show.after.Reads as after-reads
+use Rattle.runs.proofs.tree.after.Reads as after-reads
+use Rattle.runs.proofs.at.below.Reads as below-reads
+use Rattle.runs.proofs.at.below_on.Reads as below-on-reads
 use Rattle.runs.proofs.show.show_beside.Reads as reads
 use Rattle.runs.proofs.show.+show+show_and_then+show_beside+show_bind+show_choose+show_each+show_within+test+test_equals.Lts-show_beside as lts
 use Rattle.runs.proofs.show.+show+show_and_then+show_beside+show_bind+show_choose+show_each+show_within+test+test_equals.Proof.Base.{show-below, show-beside-at}
 
 abbrev pub claims : ℕ → lts.Claims
-claims t = (show-below t, show.Post, after-reads.Asked, after-reads.Learnt)
+claims t = (below-reads.Asked, below-reads.Learnt, show-below t, show.Post, after-reads.Asked, after-reads.Learnt, below-on-reads.Asked, below-on-reads.Learnt)
 
 module _ (t : ℕ) where
   abbrev entries : (s : lts.Start (claims t) (show-beside-at t) reads.Post) → List Entry
-  entries s = map (entryAt (s .args .prog .now)) (s .args .entries .now)
+  entries s = entriesOf (s .args .prog .now) (s .args .entries .now)
 
   abbrev lines : (s : lts.Start (claims t) (show-beside-at t) reads.Post) → List Line
-  lines s = map (nodeAt (s .args .master .now)) (s .args .nodes .now)
+  lines s = linesOf (s .args .master .now) (s .args .nodes .now)
 
-  begin : (s : lts.Start (claims t) (show-beside-at t) reads.Post) → Facts (entries s) (s .args .ends .now) (s .args .work .now) (s .args .slots) (s .args .entry) (s .args .start) (s .args .len) (s .args .top) (s .args .levels) t
+  begin : (s : lts.Start (claims t) (show-beside-at t) reads.Post) → FactsAt (entries s) (s .args .ends .now) (s .args .work .now) (s .args .at) t
   begin s = facts (s .pre .0) (s .pre .1 .1 .0) (omega (arith, s .good)) (here (ready-beside (s .pre .1 .0) (s .pre .1 .1 .1) .0))
 
+  -- the entry, seen from a later place
+  abbrev from-struct-known : lts.After-struct-known (claims t) (show-beside-at t) reads.Post → lts.Start (claims t) (show-beside-at t) reads.Post
+  from-struct-known p = p .before .before .before .before .before .before .before
+
+  abbrev from-below : lts.After-below (claims t) (show-beside-at t) reads.Post → lts.Start (claims t) (show-beside-at t) reads.Post
+  from-below p = from-struct-known (p .before .before)
+
+  abbrev from-v : lts.After-v (claims t) (show-beside-at t) reads.Post → lts.Start (claims t) (show-beside-at t) reads.Post
+  from-v p = from-below (p .before .before .before .before .before)
+
+  abbrev from-u : lts.After-u (claims t) (show-beside-at t) reads.Post → lts.Start (claims t) (show-beside-at t) reads.Post
+  from-u p = from-v (p .before .before .before .before .before .before .before .before .before)
+
   -- what X1 gave
-  first : (p : lts.After-v (claims t) (show-beside-at t) reads.Post) → let s = p .before .before .before .before .before .before .before .before .before .before .before .before in Got (entries s) (lines s) (s .args .work .now) (s .args .slots) (s .args .entry + 1) (s .args .start) (s .args .len) (s .args .top) (p .before .before .before .before .show .last .1 .1 .1 .1 .1 .0) (p .v .given .0 .0 .len)
-  first p = got (p .before .before .before .before .show .ensures) (p .before .before .before .before .show .kept .1 .1 .1 .1 .1 .0) (p .v .given .0 .0) (p .v .given .1)
+  first : (p : lts.After-v (claims t) (show-beside-at t) reads.Post)
+      → let s = from-v p in
+      let after-show = p .before .before .before .before in
+      Got (entries s) (lines s) (s .args .work .now) (s .args .at .slots) (s .args .at .entry + 1) (s .args .at .start) (s .args .at .len)
+      (s .args .at .top) (after-show .show .last .1 .1 .1 .1 .1 .0) (p .v .given .0 .0 .len)
+  first p =
+      let after-show = p .before .before .before .before in
+      got (rw (after-show .before .below .ensures) at (after-show .show .ensures)) (after-show .show .kept .1 .1 .1 .1 .1 .0) (p .v .given .0 .0) (p .v .given .1)
 
   -- what X2 gave behind it
-  second : (p : lts.After-u (claims t) (show-beside-at t) reads.Post) → let s = p .before .before .before .before .before .before .before .before .before .before .before .before .before .before .before .before .before .before .before .before in Got (entries s) (lines s) (p .before .before .before .before .before .before .before .before .before .before .before .before .show .last .1 .1 .1 .1 .1 .0) (s .args .slots) (p .before .before .before .before .before .before .after .result) (s .args .start) (s .args .len) (s .args .top + p .before .before .before .before .before .before .before .before .v .given .0 .0 .len) (p .before .before .before .before .show2 .last .1 .1 .1 .1 .1 .0) (p .u .given .0 .0 .len)
-  second p = got (p .before .before .before .before .show2 .ensures) (p .before .before .before .before .show2 .kept .1 .1 .1 .1 .1 .0) (p .u .given .0 .0) (p .u .given .1)
+  second : (p : lts.After-u (claims t) (show-beside-at t) reads.Post)
+      → let s = from-u p in
+      let after-show2 = p .before .before .before .before in
+      let after-after = after-show2 .before .before .before in
+      let after-show = after-after .before .before .before .before .before .before in
+      Got (entries s) (lines s) (after-show .show .last .1 .1 .1 .1 .1 .0) (s .args .at .slots) (after-after .after .result) (s .args .at .start)
+      (s .args .at .len) (s .args .at .top + after-after .before .before .v .given .0 .0 .len) (after-show2 .show2 .last .1 .1 .1 .1 .1 .0) (p .u .given .0 .0 .len)
+  second p =
+      let after-show2 = p .before .before .before .before in
+      got (rw (after-show2 .before .before .below-on .ensures) at (after-show2 .show2 .ensures)) (after-show2 .show2 .kept .1 .1 .1 .1 .1 .0)
+      (p .u .given .0 .0) (p .u .given .1)
 
-  pub add-show : lts.Need-add-show (claims t) (show-beside-at t) reads.Post
-  add-show c = let f = begin (c .before .before .before .before .before .before .before) in omega arith
+  pub add-x1 : lts.Need-add-x1 (claims t) (show-beside-at t) reads.Post
+  add-x1 c = let f = begin (from-struct-known c) in omega arith
 
-  pub sub-show : lts.Need-sub-show (claims t) (show-beside-at t) reads.Post
-  sub-show c = let f = begin (c .before .before .before .before .before .before .before) in omega arith
+  pub below-requires : lts.Need-below-requires (claims t) (show-beside-at t) reads.Post
+  below-requires c κs = let f = begin (from-struct-known (c .before)) in omega arith
 
   pub show-requires : lts.Need-show-requires (claims t) (show-beside-at t) reads.Post
   show-requires c κs =
-      let s = c .before .before .before .before .before .before .before in
+      let s = from-below c in
       let f = begin s in
-      (omega arith, (ready-beside (s .pre .1 .0) (s .pre .1 .1 .1) .0, record { below = omega arith; short = omega arith; enough = omega arith; bound = f .space .bound }))
-
-  pub enum-known-s : lts.Need-enum-known-s (claims t) (show-beside-at t) reads.Post
-  enum-known-s c = search needs
-
-  pub enum-known-v : lts.Need-enum-known-v (claims t) (show-beside-at t) reads.Post
-  enum-known-v c = search needs
-
-  pub add-after : lts.Need-add-after (claims t) (show-beside-at t) reads.Post
-  add-after c = let f = begin (c .before .before .before .before .before .before .before .before .before .before .before .before .before) in omega arith
+      rw (c .below .ensures) (
+        omega arith,
+        (
+          ready-beside (s .pre .1 .0) (s .pre .1 .1 .1) .0,
+          record { below = omega arith; short = omega arith; enough = omega arith; low = omega arith; bound = f .space .bound },
+        ),
+      )
 
   pub after-requires : lts.Need-after-requires (claims t) (show-beside-at t) reads.Post
-  after-requires c κs = let f = begin (c .before .before .before .before .before .before .before .before .before .before .before .before .before) in omega arith
+  after-requires c κs = let f = begin (from-v (c .before)) in omega arith
 
-  pub add-show-2 : lts.Need-add-show-2 (claims t) (show-beside-at t) reads.Post
-  add-show-2 c =
-      let s = c .before .before .before .before .before .before .before .before .before .before .before .before .before .before .before in
+  pub add-below-on : lts.Need-add-below-on (claims t) (show-beside-at t) reads.Post
+  add-below-on c =
+      let s = from-v (c .before .before) in
       let f = begin s in
-      let x = first (c .before .before .before) in
+      let x = first (c .before .before) in
       omega arith
 
-  pub sub-show-2 : lts.Need-sub-show-2 (claims t) (show-beside-at t) reads.Post
-  sub-show-2 c = let f = begin (c .before .before .before .before .before .before .before .before .before .before .before .before .before .before .before) in omega arith
+  pub below-on-requires : lts.Need-below-on-requires (claims t) (show-beside-at t) reads.Post
+  below-on-requires c κs = let f = begin (from-v (c .before .before)) in omega arith
 
   pub show-requires-2 : lts.Need-show-requires-2 (claims t) (show-beside-at t) reads.Post
   show-requires-2 c κs =
-      let s = c .before .before .before .before .before .before .before .before .before .before .before .before .before .before .before in
+      let after-v = c .before .before .before .before in
+      let s = from-v after-v in
       let f = begin s in
-      let x = first (c .before .before .before) in
-      (omega arith, (rw (c .before .after .ensures) (ready-beside (s .pre .1 .0) (s .pre .1 .1 .1) .1), record { below = omega arith; short = omega arith; enough = omega arith; bound = bound-higher (f .space .bound) (s .args .top + _) (omega arith) }))
+      let x = first after-v in
+      rw (c .before .below-on .ensures) (
+        omega arith,
+        (
+          rw (c .before .before .after .ensures) (ready-beside (s .pre .1 .0) (s .pre .1 .1 .1) .1),
+          record
+              { below = omega arith; short = omega arith; enough = omega arith; low = omega arith; bound = bound-higher (f .space .bound) (s .args .at .top + _) (omega arith) },
+        ),
+      )
 
-  pub enum-known-s-2 : lts.Need-enum-known-s-2 (claims t) (show-beside-at t) reads.Post
-  enum-known-s-2 c = search needs
-
-  pub enum-known-u : lts.Need-enum-known-u (claims t) (show-beside-at t) reads.Post
-  enum-known-u c = search needs
-
-  pub add-if1 : lts.Need-add-if1 (claims t) (show-beside-at t) reads.Post
-  add-if1 c =
-      let s = c .before .before .before .before .before .before .before .before .before .before .before .before .before .before .before .before .before .before .before .before .before in
+  pub add-len : lts.Need-add-len (claims t) (show-beside-at t) reads.Post
+  add-len c =
+      let after-v = c .before .before .before .before .before .before .before .before .before .before .before in
+      let s = from-v after-v in
       let f = begin s in
-      let x = first (c .before .before .before .before .before .before .before .before .before) in
-      let y = second (c .before) in
+      let x = first after-v in
+      let y = second (c .before .before) in
       omega arith
 
   pub same-length : lts.Need-same-length (claims t) (show-beside-at t) reads.Post
   same-length c =
-      c .before .before .before .before .before .before .show2 .kept .1 .1 .1 .1 .1 .0 ∙ c .before .before .before .before .before .before .before .before .before .before .before .before .before .before .show .kept .1 .1 .1 .1 .1 .0
+      let after-show2 = c .before .before .before .before .before .before .before in
+      let after-show = after-show2 .before .before .before .before .before .before .before .before .before in
+      after-show2 .show2 .kept .1 .1 .1 .1 .1 .0 ∙ after-show .show .kept .1 .1 .1 .1 .1 .0
 
   pub returns : lts.Need-returns (claims t) (show-beside-at t) reads.Post
   returns c =
-      let s = c .before .before .before .before .before .before .before .before .before .before .before .before .before .before .before .before .before .before .before .before .before .before in
+      let after-u = c .before .before .before in
+      let after-after = after-u .before .before .before .before .before .before .before in
+      let s = from-v (after-after .before .before) in
       let f = begin s in
-      let x = first (c .before .before .before .before .before .before .before .before .before .before) in
-      let y = second (c .before .before) in
-      beside-large (s .args .entry) (s .pre .1 .1 .1) (s .pre .1 .0 .ended) (s .pre .1 .1 .0 .bound) (s .pre .1 .1 .0 .below) x (omega arith) (c .before .before .before .before .before .before .before .before .after .ensures) y (omega arith) (c .if1 .taken)
-
-  pub add-t32 : lts.Need-add-t32 (claims t) (show-beside-at t) reads.Post
-  add-t32 c =
-      let s = c .before .before .before .before .before .before .before .before .before .before .before .before .before .before .before .before .before .before .before .before .before .before in
-      let f = begin s in
-      let x = first (c .before .before .before .before .before .before .before .before .before .before) in
-      let y = second (c .before .before) in
-      omega arith
+      let x = first (after-after .before .before) in
+      let y = second after-u in
+      beside-large (s .args .at .entry) (s .pre .1 .1 .1) (s .pre .1 .0 .ended) (s .pre .1 .1 .0 .bound) (s .pre .1 .1 .0 .below) x (omega arith)
+      (after-after .after .ensures) y (omega arith) (c .if1 .taken)
 
   pub same-length-2 : lts.Need-same-length-2 (claims t) (show-beside-at t) reads.Post
-  same-length-2 c = c .before .before .before .before .before .show .kept .1 .1 .1 .1 .1 .0
+  same-length-2 c = let after-show = c .before .before .before .before .before in after-show .show .kept .1 .1 .1 .1 .1 .0
 
   pub returns-2 : lts.Need-returns-2 (claims t) (show-beside-at t) reads.Post
   returns-2 c =
-      let s = c .before .before .before .before .before .before .before .before .before .before .before .before .before in
-      beside-first (s .args .entry) (s .pre .1 .1 .1) (halted (c .before .before .before .before .before .show .ensures) (c .before .s .given .0 .0) (c .before .s .given .1))
+      let after-s = c .before in
+      let after-show = after-s .before .before .before .before in
+      let s = from-below (after-show .before) in
+      beside-first (s .args .at .entry) (s .pre .1 .1 .1)
+      (halted (rw (after-show .before .below .ensures) at (after-show .show .ensures)) (after-s .s .given .0 .0) (after-s .s .given .1))
 
   pub same-length-3 : lts.Need-same-length-3 (claims t) (show-beside-at t) reads.Post
   same-length-3 c =
-      c .before .before .before .before .before .show2 .kept .1 .1 .1 .1 .1 .0 ∙ c .before .before .before .before .before .before .before .before .before .before .before .before .before .show .kept .1 .1 .1 .1 .1 .0
+      let after-show2 = c .before .before .before .before .before in
+      let after-show = after-show2 .before .before .before .before .before .before .before .before .before in
+      after-show2 .show2 .kept .1 .1 .1 .1 .1 .0 ∙ after-show .show .kept .1 .1 .1 .1 .1 .0
 
   pub returns-3 : lts.Need-returns-3 (claims t) (show-beside-at t) reads.Post
   returns-3 c =
-      let s = c .before .before .before .before .before .before .before .before .before .before .before .before .before .before .before .before .before .before .before .before .before in
+      let after-s2 = c .before in
+      let after-show2 = after-s2 .before .before .before .before in
+      let after-after = after-show2 .before .before .before in
+      let s = from-v (after-after .before .before) in
       let f = begin s in
-      let x = first (c .before .before .before .before .before .before .before .before .before) in
-      beside-second (s .args .entry) (s .pre .1 .1 .1) (s .pre .1 .0 .ended) (s .pre .1 .1 .0 .bound) (s .pre .1 .1 .0 .below) x (omega arith) (c .before .before .before .before .before .before .before .after .ensures) (halted (c .before .before .before .before .before .show2 .ensures) (c .before .s2 .given .0 .0) (c .before .s2 .given .1))
+      let x = first (after-after .before .before) in
+      beside-second (s .args .at .entry) (s .pre .1 .1 .1) (s .pre .1 .0 .ended) (s .pre .1 .1 .0 .bound) (s .pre .1 .1 .0 .below) x (omega arith)
+      (after-after .after .ensures) (halted (rw (after-show2 .before .before .below-on .ensures) at (after-show2 .show2 .ensures))
+      (after-s2 .s2 .given .0 .0) (after-s2 .s2 .given .1))
 
   pub same-length-4 : lts.Need-same-length-4 (claims t) (show-beside-at t) reads.Post
   same-length-4 c =
-      c .before .before .before .before .before .before .show2 .kept .1 .1 .1 .1 .1 .0 ∙ c .before .before .before .before .before .before .before .before .before .before .before .before .before .before .show .kept .1 .1 .1 .1 .1 .0
+      let after-show2 = c .before .before .before .before .before .before .before in
+      let after-show = after-show2 .before .before .before .before .before .before .before .before .before in
+      after-show2 .show2 .kept .1 .1 .1 .1 .1 .0 ∙ after-show .show .kept .1 .1 .1 .1 .1 .0
 
   pub returns-4 : lts.Need-returns-4 (claims t) (show-beside-at t) reads.Post
   returns-4 c =
-      let s = c .before .before .before .before .before .before .before .before .before .before .before .before .before .before .before .before .before .before .before .before .before .before in
+      let after-u = c .before .before .before in
+      let after-after = after-u .before .before .before .before .before .before .before in
+      let s = from-v (after-after .before .before) in
       let f = begin s in
-      let x = first (c .before .before .before .before .before .before .before .before .before .before) in
-      let y = second (c .before .before) in
-      beside-done (s .args .entry) (s .pre .1 .1 .1) (s .pre .1 .0 .ended) (s .pre .1 .1 .0 .bound) (s .pre .1 .1 .0 .below) x (omega arith) (c .before .before .before .before .before .before .before .before .after .ensures) y (omega arith) (c .if1 .left)
+      let x = first (after-after .before .before) in
+      let y = second after-u in
+      beside-done (s .args .at .entry) (s .pre .1 .1 .1) (s .pre .1 .0 .ended) (s .pre .1 .1 .0 .bound) (s .pre .1 .1 .0 .below) x (omega arith)
+      (after-after .after .ensures) y (omega arith) (c .if1 .left)

@@ -58,7 +58,20 @@ abbrev pub check-two-below : ℕ → In 3 check-two-kinds.ps
 check-two-below t = and 3 check-two-kinds.ps (falls 3 check-two-kinds.ps _<_ μ-check-two t) check-two.Pre
 
 abbrev pub check-at-calls : ℕ → check-at-lts.Claims
-check-at-calls t = (operation-at-reads.Asked, operation-at-reads.Learnt, slot-at-reads.Asked, slot-at-reads.Learnt, may-stand-reads.Asked, may-stand-reads.Learnt, is-asked-reads.Asked, is-asked-reads.Learnt, room-below-reads.Asked, room-below-reads.Learnt, check-below-below t, check-below.Post)
+check-at-calls t = (
+  operation-at-reads.Asked,
+  operation-at-reads.Learnt,
+  slot-at-reads.Asked,
+  slot-at-reads.Learnt,
+  may-stand-reads.Asked,
+  may-stand-reads.Learnt,
+  is-asked-reads.Asked,
+  is-asked-reads.Learnt,
+  room-below-reads.Asked,
+  room-below-reads.Learnt,
+  check-below-below t,
+  check-below.Post,
+)
 
 abbrev pub check-below-calls : ℕ → check-below-lts.Claims
 check-below-calls t = (row-of-reads.Asked, row-of-reads.Learnt, check-at-below t, check-at.Post, check-two-below t, check-two.Post, check-choice-below t, check-choice.Post)

@@ -2,27 +2,26 @@
 use crate::reply::Reply;
 use crate::reply::Step;
 use crate::reply::refuse;
+use crate::room::SHOWN;
 use lines::fields::depth_at;
+use runs::at::root;
 use runs::show::show;
-use runs::slots::no_slots;
 use runs::stop::Run;
 use runs::stop::Stop;
 use values::nodes::LEVEL;
 ghost use mathlib.Core.Path.{_≡_};
-ghost use mathlib.Core.List.{map};
 ghost use Prim.Native.Nat.{_≤_};
 ghost use lib.ListN.{length};
-ghost use Rattle.lines.specs.Nodes.{nodeAt};
-ghost use Rattle.lines.specs.Entries.{entryAt};
 ghost use Rattle.lines.specs.Writing.{putAt};
 ghost use Rattle.runs.specs.Results.{stopNumber, stopEntry};
+ghost use Rattle.runs.specs.Runs.{entriesOf, linesOf};
 ghost use Rattle.calls.specs.Outcomes.{workRoom};
 ghost use Rattle.calls.specs.Parts.{replied, sourceWords, Runnable, RanBy};
 
 // Each master node as a word, at the foot of the work slice.
 fn load(master: &[u8], nodes: &[u16], work: &mut [u32])
     requires { ⌜ (length (now nodes) ≤ 128) × (128 ≤ length (now work)) ⌝ }
-    ensures { λ r. ⌜ now (work .exit) ≡ putAt (now (work .entry)) 0 (sourceWords 0 (map (nodeAt (now (master .entry))) (now (nodes .entry)))) ⌝ }
+    ensures { λ r. ⌜ now (work .exit) ≡ putAt (now (work .entry)) 0 (sourceWords 0 (linesOf (now (master .entry)) (now (nodes .entry)))) ⌝ }
 {
     let mut k: usize = 0;
     while k < nodes.len() {
@@ -40,8 +39,8 @@ fn stopped(stop: Stop) -> Reply
     }
 }
 
-// Leaves the source at place 0 and what is shown at place 128.
-pub fn run(
+// Leaves the source at place 0 and what is shown at SHOWN.
+pub fn run_program(
     program: &[u8],
     entries: &[u16],
     ends: &[u8],
@@ -49,25 +48,13 @@ pub fn run(
     nodes: &[u16],
     work: &mut [u32],
 ) -> Step
-    requires { ⌜ Runnable (map (entryAt (now program)) (now entries)) (now ends) (map (nodeAt (now master)) (now nodes)) ⌝ }
+    requires { ⌜ Runnable (entriesOf (now program) (now entries)) (now ends) (linesOf (now master) (now nodes)) ⌝ }
     requires { ⌜ workRoom ≤ length (now work) ⌝ }
-    ensures { λ r. ⌜ RanBy (map (entryAt (now (program .entry))) (now (entries .entry))) (map (nodeAt (now (master .entry))) (now (nodes .entry))) (now (work .exit)) r ⌝ }
+    ensures { λ r. ⌜ RanBy (entriesOf (now (program .entry)) (now (entries .entry))) (linesOf (now (master .entry)) (now (nodes .entry))) (now (work .exit)) r ⌝ }
 {
     load(master, nodes, work);
-    let shown = show(
-        program,
-        entries,
-        ends,
-        master,
-        nodes,
-        work,
-        no_slots(),
-        0,
-        0,
-        nodes.len(),
-        128,
-        12,
-    );
+    let at = root(nodes.len(), SHOWN, 0, 0);
+    let shown = show(program, entries, ends, master, nodes, work, at);
     match shown {
         Run::Stop(stop) => Step::Refused(stopped(stop)),
         Run::Value(value) => Step::Goes(value.len),

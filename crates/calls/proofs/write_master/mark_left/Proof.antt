@@ -1,7 +1,7 @@
 -- By the word of the standing.
 use Rattle.calls.proofs.HandedLines.{mark-changed, mark-deleted, mark-kept}
-use Rattle.calls.proofs.lines_out.mark_left.Statement.{statement}
-use Rattle.calls.proofs.lines_out.mark_left.Tie as tie
+use Rattle.calls.proofs.write_master.mark_left.Statement.{statement}
+use Rattle.calls.proofs.write_master.mark_left.Tie as tie
 
 returns : tie.Need-returns
 returns c = mark-changed _ _ (c .if1 .taken)

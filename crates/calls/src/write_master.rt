@@ -1,4 +1,5 @@
 // The master's lines as they are handed back, written from the words of their standings.
+use crate::room::HANDED;
 use lines::fields::depth_at;
 use lines::fields::kind_at;
 use lines::fields::mark_at;
@@ -9,7 +10,6 @@ use lines::write::write_line;
 use values::standings::CHANGED;
 use values::standings::DELETED;
 ghost use mathlib.Core.Path.{_≡_};
-ghost use mathlib.Core.List.{map};
 ghost use Prim.Native.Nat.{_+_, _≤_};
 ghost use lib.ListN.{length};
 ghost use Rattle.lines.specs.Nodes.{nodeAt};
@@ -17,6 +17,7 @@ ghost use Rattle.lines.specs.Writing.{Written};
 ghost use Rattle.lines.specs.Writing.{lineOf as written};
 ghost use Rattle.values.specs.Standings.{handsBack};
 ghost use Rattle.values.specs.Words.{standingOf};
+ghost use Rattle.runs.specs.Runs.{linesOf};
 ghost use Rattle.calls.specs.Parts.{markLeft, textsOf, handedLines, HandingRoom, WroteLines};
 
 // The mark that a standing leaves on a line with this one.
@@ -42,8 +43,10 @@ fn write_handed(
     out: &mut [u8],
     pos: usize,
 ) -> usize
-    requires { ⌜ pos + length (written (handsBack (nodeAt (now master) start) (standingOf (textsOf (map (nodeAt (now view)) (now lines))) word))) ≤ length (now out) ⌝ }
-    ensures { λ r. ⌜ Written (now (out .entry)) (now (out .exit)) pos (written (handsBack (nodeAt (now (master .entry)) start) (standingOf (textsOf (map (nodeAt (now (view .entry))) (now (lines .entry)))) word))) r ⌝ }
+    requires { ⌜ (let standing = standingOf (textsOf (linesOf (now view) (now lines))) word in
+        pos + length (written (handsBack (nodeAt (now master) start) standing)) ≤ length (now out)) ⌝ }
+    ensures { λ r. ⌜ (let standing = standingOf (textsOf (linesOf (now (view .entry)) (now (lines .entry)))) word in
+        Written (now (out .entry)) (now (out .exit)) pos (written (handsBack (nodeAt (now (master .entry)) start) standing)) r) ⌝ }
 {
     let head = Head {
         depth: depth_at(master, start),
@@ -70,13 +73,14 @@ pub fn write_master(
     work: &[u32],
     out: &mut [u8],
 ) -> usize
-    requires { ⌜ HandingRoom (map (nodeAt (now master)) (now nodes)) (map (nodeAt (now view)) (now lines)) (now work) (now out) ⌝ }
-    ensures { λ r. ⌜ WroteLines (handedLines (map (nodeAt (now (master .entry))) (now (nodes .entry))) (map (nodeAt (now (view .entry))) (now (lines .entry))) (now (work .entry))) (now (out .entry)) (now (out .exit)) r ⌝ }
+    requires { ⌜ HandingRoom (linesOf (now master) (now nodes)) (linesOf (now view) (now lines)) (now work) (now out) ⌝ }
+    ensures { λ r. ⌜ (let L = linesOf (now (master .entry)) (now (nodes .entry)) in
+        WroteLines (handedLines L (linesOf (now (view .entry)) (now (lines .entry))) (now (work .entry))) (now (out .entry)) (now (out .exit)) r) ⌝ }
 {
     let mut pos: usize = 0;
     let mut k: usize = 0;
     while k < nodes.len() {
-        let standing = work[256 + k];
+        let standing = work[HANDED + k];
         pos = write_handed(master, nodes[k], view, lines, standing, out, pos);
         k += 1;
     }

@@ -1,0 +1,19 @@
+// The room that a call asks for, where things lie in its work slice, and the sizes of its own arrays.
+
+// The bytes of the output buffer, and of the fresh view while putting back.
+pub const OUT_ROOM: usize = 9856;
+
+// The words of the work slice.
+pub const WORK_ROOM: usize = 16384;
+
+// Where in the work slice, behind the source, what is shown lies, and then the view's standings.
+pub const SHOWN: usize = 128;
+
+// Where in the work slice the standings handed back lie.
+pub const HANDED: usize = 256;
+
+// The most lines of a file: a scan asks for as many places.
+pub const LINES: usize = 128;
+
+// The most entries of a program.
+pub const ENTRIES: usize = 96;
