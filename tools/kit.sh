@@ -8,7 +8,7 @@ kit_tools=$kit_own/toolchain
 kit_target=x86_64-unknown-linux-gnu
 kit_emulator=$kit_tools/bin/qemu-x86_64
 [ -x "$kit_emulator" ] || kit_emulator=
-archive=target/staticlib/libcalls.a
+archive=target/staticlib/libmeadcinder.a
 
 # The crate whose proof was begun last.
 kit_crate_at_work() {
@@ -47,7 +47,7 @@ kit_archive() {
     echo 'Proving the engine and building its archive, which takes minutes.' >&2
     mkdir -p target/staticlib
     touch $begun.now
-    kit_prove staticlib calls
+    kit_prove staticlib meadcinder
     mv $begun.now $begun
 }
 

@@ -10,21 +10,20 @@ use lib.ListN.{length, getD}
 use borrow.Author.Tests.{eq-eqb, ne-eqb}
 use Rattle.lines.specs.declared.verdict.Verdict.the-variants.{Fine, Fault}
 use Rattle.lines.specs.Texts.{sameText}
-use Rattle.lines.specs.Nodes.{changedMark, deletedMark}
-use Rattle.lines.specs.Nodes.{Node as Line}
+use Rattle.lines.specs.Nodes.{Line, changedMark, deletedMark, noLine}
 use Rattle.lines.specs.Verdicts.{reply, firstFrom}
 use Rattle.values.specs.Values.{Value, Lookup, bytesOf, isFrom}
 use Rattle.values.specs.Standings.{Standing, untouched, changed, deleted, isClash, firstOf, restOf, gathered, brings, handsBack}
-use Rattle.values.specs.Words.{standingOf, Named, AllNamed}
+use Rattle.values.specs.Engine.Words.{standingOf, Named, AllNamed}
 use Rattle.values.specs.Theorems.MergeLaws.{sameText-sound, sameText-refl, unit-left, unit-right}
 use Rattle.values.specs.Theorems.Copies.{standingAt}
 use Rattle.runs.specs.Results.{gives, stops}
 use Rattle.runs.specs.Programs.{Transformation}
 use Rattle.runs.specs.Showing.{Shown}
 use Rattle.runs.specs.PuttingBack.{Back, putBack, untouchedSlots, gatheredSlots, valueOf}
-use Rattle.runs.specs.Grounds.{noLine, numberedFrom, linesIn, lookupIn, whole, oneMaster, showing, brought, standing, standingFor, firstClash, handedBack}
+use Rattle.runs.specs.Grounds.{numberedFrom, linesIn, lookupIn, whole, oneMaster, showing, brought, standing, standingFor, firstClash, handedBack}
 use Rattle.calls.specs.Judging.{keeps, judgedStandings}
-use Rattle.calls.specs.Parts.{textsOf, handedOver, firstWith, broughtWord, broughtWords}
+use Rattle.calls.specs.Engine.Parts.{textsOf, handedOver, firstWith, broughtWord, broughtWords}
 
 -- ## The first line with a text
 

@@ -7,29 +7,31 @@ use mathlib.Core.Logic.{inl}
 use lib.ListN.{length, length-map}
 use Rattle.lines.specs.declared.verdict.Verdict.{Verdict}
 use Rattle.lines.specs.declared.verdict.Verdict.the-variants.{Fine, Fault}
-use Rattle.lines.specs.Nodes.{Node as Line}
+use Rattle.lines.specs.Nodes.{Line}
 use Rattle.lines.specs.Entries.{Entry}
 use Rattle.lines.specs.Verdicts.{firstFrom}
 use Rattle.lines.specs.Writing.{fileOf, putAt}
+use Rattle.lines.specs.Theorems.PutAt.{length-put, put-part}
+use Rattle.lines.specs.Theorems.Places.{first-below, fault-below}
+use Rattle.lines.specs.Engine.Writes.{WroteLines}
 use Rattle.values.specs.Standings.{Standing, isClash}
-use Rattle.values.specs.Words.{part, standingOf, standingsAt, AllNamed}
-use Rattle.values.specs.Theorems.Extents.{length-part, length-put, put-part, put-other}
+use Rattle.values.specs.Engine.Words.{part, standingOf, standingsAt, AllNamed}
+use Rattle.values.specs.Theorems.Extents.{length-part, put-other}
 use Rattle.runs.specs.Results.{gives}
 use Rattle.runs.specs.Programs.{Transformation}
 use Rattle.runs.specs.Reading.{readProgram}
 use Rattle.runs.specs.Showing.{Shown}
 use Rattle.runs.specs.Grounds.{oneMaster, numberedFrom, lookupIn, showing}
-use Rattle.runs.specs.Runs.{madeBy, Ready, valueOnly, marksAt, marksTo, PutSpace, Seen, PutBy}
-use Rattle.runs.specs.declared.slots.Slots.{Slots as SlotWords}
-use Rattle.runs.specs.SlotWords.{noSlots}
-use Rattle.runs.specs.Trees.{Stands}
+use Rattle.runs.specs.Engine.Runs.{madeBy, Ready, valueOnly, marksAt, marksTo, PutSpace, Seen, PutBy}
+use Rattle.runs.specs.declared.slots.SlotWords.{SlotWords}
+use Rattle.runs.specs.Engine.SlotWords.{noSlots}
+use Rattle.runs.specs.Engine.Trees.{Stands}
 use Rattle.runs.specs.Theorems.WholePrograms.{program-placed}
 use Rattle.calls.specs.Judging.{judgedStandings}
 use Rattle.calls.specs.Outcomes.{outRoom, settled}
 use Rattle.calls.specs.declared.reply.Reply.{Reply}
-use Rattle.calls.specs.Parts.{replied, Settles, sourceWords, broughtWord, broughtWords, textsOf}
-use Rattle.calls.specs.Parts.{handedLines, HandingRoom, WroteLines, Carriable, CarriedBack}
-use Rattle.calls.proofs.Places.{first-below, fault-below}
+use Rattle.calls.specs.Engine.Parts.{replied, Settles, sourceWords, broughtWord, broughtWords, textsOf}
+use Rattle.calls.specs.Engine.Parts.{handedLines, HandingRoom, Carriable, CarriedBack}
 use Rattle.calls.proofs.Grounded.{program-ready, same-lookup, source-value, no-slots-at, no-slots-bound, same-showing}
 use Rattle.calls.proofs.Carried.{brought-named, brought-standings, putBackWhole, broughtIn, carried-clashes, carried-goes}
 use Rattle.calls.proofs.Steps.{written-settles}
@@ -68,7 +70,7 @@ module _ {E : List Entry} {ends : List ℕ} {L es : List Line} {w out : List ℕ
 
     view-words : part w₁ 128 (length es) ≡ words
     view-words =
-        ap (λ (l : List ℕ). part l 128 (length es)) comes ∙ ap (part (putAt w 128 words) 128) (sym (length-map es (broughtWord es))) ∙ put-part w 128 words fits
+        ap (λ (l : List ℕ). part l 128 (length es)) comes ∙ ap (part (putAt w 128 words) 128) (sym (length-map es (broughtWord es))) ∙ put-part w 128 words (omega arith)
 
     -- what `put` asks
     pub put-space : (marks : List ℕ) → length marks ≡ 512 → PutSpace w₁ marks noSlots 0 (length L) 128 (length es) 256 12

@@ -9,9 +9,9 @@ use lib.ListN.{length, getD}
 use borrow.Author.Tests.{eq-eqb, ne-eqb, eqb-true}
 use Rattle.lines.specs.declared.verdict.Verdict.the-variants.{Fine, Fault}
 use Rattle.lines.specs.Verdicts.{firstFrom}
-use Rattle.lines.proofs.Masters.{first-none, first-here, first-later}
+use Rattle.lines.specs.Theorems.FirstFault.{first-none, first-here, first-later}
 use Rattle.values.specs.Standings.{Standing, untouched, locked, deleted, clash, changed, sort, isClash}
-use Rattle.values.specs.Words.{standingOf, standingsAt}
+use Rattle.values.specs.Engine.Words.{standingOf, standingsAt}
 use Rattle.values.specs.Theorems.WordLaws.{standings-cons}
 
 module _ (texts : ℕ → List ℕ) where

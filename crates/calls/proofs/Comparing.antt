@@ -10,22 +10,25 @@ use Rattle.lines.specs.declared.scan.File.the-variants.{View}
 use Rattle.lines.specs.declared.scan.Scan.{Scan}
 use Rattle.lines.specs.declared.scan.Scan.the-variants.{Lines, Wrong}
 use Rattle.lines.specs.declared.verdict.Verdict.the-variants.{Fine, Fault}
-use Rattle.lines.specs.Files.{scan, Scanned}
-use Rattle.lines.specs.Nodes.{nodes, nodeAt}
-use Rattle.lines.specs.Nodes.{Node as Line}
+use Rattle.lines.specs.Files.{scan}
+use Rattle.lines.specs.Nodes.{Line, nodes}
 use Rattle.lines.specs.Entries.{Entry}
 use Rattle.lines.specs.Views.{sameLine, differenceFrom, firstDifference}
 use Rattle.lines.specs.Writing.{fileOf, putAt}
-use Rattle.values.specs.Words.{valueAt}
-use Rattle.values.specs.Theorems.Extents.{put-part}
+use Rattle.lines.specs.Theorems.PutAt.{put-part}
+use Rattle.lines.specs.Theorems.Reading.{reads-view, scanned-whole, said-lines}
+use Rattle.lines.specs.Theorems.Widths.{file-short}
+use Rattle.lines.specs.Theorems.RoundTrip.{nodes-written}
+use Rattle.lines.specs.Engine.Starts.{Scanned, nodeAt, linesOf}
+use Rattle.lines.specs.Engine.Writes.{WroteLines}
+use Rattle.values.specs.Engine.Words.{valueAt}
 use Rattle.values.specs.Theorems.WordLaws.{length-value}
-use Rattle.lines.specs.Theorems.Reading.{reads-view}
 use Rattle.runs.specs.Results.{gives}
 use Rattle.runs.specs.Programs.{Transformation}
 use Rattle.runs.specs.Reading.{readProgram}
 use Rattle.runs.specs.Showing.{Shown}
 use Rattle.runs.specs.Grounds.{oneMaster, showing, view}
-use Rattle.runs.specs.Runs.{linesOf, madeBy}
+use Rattle.runs.specs.Engine.Runs.{madeBy}
 use Rattle.runs.specs.Theorems.Inversion.{gives-inj}
 use Rattle.runs.specs.Theorems.WholePrograms.{program-placed}
 use Rattle.calls.specs.Judging.{judgedView}
@@ -33,11 +36,10 @@ use Rattle.calls.specs.Outcomes.{outRoom}
 use Rattle.calls.specs.declared.reply.Reply.{Reply}
 use Rattle.calls.specs.declared.reply.Step.{Step}
 use Rattle.calls.specs.declared.reply.Step.the-variants.{Goes, Refused}
-use Rattle.calls.specs.Parts.{Refuses, viewLines, ViewRoom, WroteLines, ViewGoes, ViewJudged, Carriable, CarriedBack, Comparable, ComparedBack}
+use Rattle.calls.specs.Engine.Parts.{Refuses, viewLines, ViewRoom, ViewGoes, ViewJudged, Carriable, CarriedBack, Comparable, ComparedBack}
 use Rattle.calls.specs.Theorems.Judged.{ViewPassed, view-passed}
-use Rattle.calls.specs.Theorems.FreshLines.{length-view, fresh-scan, fresh-nodes, file-short}
+use Rattle.calls.specs.Theorems.FreshLines.{length-view, fresh-scan}
 use Rattle.calls.specs.Theorems.Returned.{returned-writable}
-use Rattle.calls.proofs.Places.{scanned-whole, said-lines}
 use Rattle.calls.proofs.Steps.{refused-first, refused-settles, passed-settles}
 
 -- no difference, as many lines
@@ -110,7 +112,7 @@ module _ {E : List Entry} {ends : List ℕ} {L : List Line} {len : ℕ} {w out :
         scanned-lines : linesOf file (take (m - 0) noted) ≡ fresh
         scanned-lines =
             ap (λ (n : ℕ). linesOf file (take n noted)) (sub-zero m) ∙ sym (said-lines nodes nodeAt reads-view (scanned-whole x m e)) ∙ ap nodes file-is
-            ∙ fresh-nodes fresh (k .fresh-form)
+            ∙ nodes-written fresh (k .fresh-form)
 
         -- ## The view judged beside it
 

@@ -6,20 +6,19 @@ use native.Mathlib.Nat.{not-suc-le-zero}
 use native.Mathlib.Omega.{arith}
 use lib.ListN.{length, getD}
 use borrow.Author.Tests.{lt-ltb}
-use Rattle.lines.specs.Nodes.{isElement}
-use Rattle.lines.specs.Nodes.{Node as Line}
+use Rattle.lines.specs.Nodes.{Line, isElement, noLine}
 use Rattle.lines.specs.Entries.{Entry}
 use Rattle.values.specs.Values.{master, Node, Value}
-use Rattle.values.specs.Words.{part, Made, originOf, nodeOf, valueAt}
-use Rattle.runs.specs.Grounds.{numberedFrom, noLine, lineOf, lookupIn, whole, oneMaster, showing}
+use Rattle.values.specs.Engine.Words.{part, Made, originOf, nodeOf, valueAt}
+use Rattle.runs.specs.Grounds.{numberedFrom, lineOf, lookupIn, whole, oneMaster, showing}
 use Rattle.runs.specs.Programs.{Transformation}
 use Rattle.runs.specs.Reading.{wholeRoom}
 use Rattle.runs.specs.Showing.{show}
-use Rattle.runs.specs.SlotWords.{noSlots}
-use Rattle.runs.specs.Runs.{lookupOf, slotsTo, slotsAt, bytesTo, Bound, Inside, Ready}
+use Rattle.runs.specs.Engine.SlotWords.{noSlots}
+use Rattle.runs.specs.Engine.Runs.{lookupOf, slotsTo, slotsAt, bytesTo, Bound, Inside, Ready}
 use Rattle.runs.specs.Theorems.WholePrograms.{program-placed}
 use Rattle.calls.specs.Theorems.ShownNumbers.{line-of}
-use Rattle.calls.specs.Parts.{sourceWords, Runnable}
+use Rattle.calls.specs.Engine.Parts.{sourceWords, Runnable}
 
 -- ## Lookups
 

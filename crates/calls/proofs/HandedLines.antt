@@ -7,19 +7,16 @@ use native.Mathlib.Omega.{arith}
 use lib.ListN.{length, getD, length-map}
 use borrow.Author.Tests.{le-leb, lt-leb, ne-eqb}
 use Rattle.lines.specs.declared.write.Head.{Head}
-use Rattle.lines.specs.Nodes.{changedMark, deletedMark, nodeAt}
-use Rattle.lines.specs.Nodes.{Node as Line}
-use Rattle.lines.specs.Texts.{textAt}
-use Rattle.lines.specs.Writing.{headed}
+use Rattle.lines.specs.Nodes.{Line, changedMark, deletedMark, noLine}
+use Rattle.lines.specs.Theorems.LinesAt.{line-at, no-line-at, text-at}
+use Rattle.lines.specs.Theorems.WritingLines.{Fitting}
+use Rattle.lines.specs.Engine.Starts.{nodeAt, linesOf, textAt}
+use Rattle.lines.specs.Engine.Writes.{headed}
 use Rattle.values.specs.Standings.{Standing, untouched, handsBack, restOf}
-use Rattle.values.specs.Words.{part, standingOf, standingsAt}
+use Rattle.values.specs.Engine.Words.{part, standingOf, standingsAt}
 use Rattle.values.specs.Theorems.Extents.{length-part, getD-part}
 use Rattle.values.specs.Theorems.WordLaws.{length-standings}
-use Rattle.runs.specs.Grounds.{noLine}
-use Rattle.runs.specs.Runs.{linesOf}
-use Rattle.calls.specs.Parts.{markLeft, handedOver, textsOf, handedLines, HandingRoom}
-use Rattle.calls.proofs.LinesAt.{line-at, no-line-at, text-at}
-use Rattle.calls.proofs.WritingLines.{Fitting}
+use Rattle.calls.specs.Engine.Parts.{markLeft, handedOver, textsOf, handedLines, HandingRoom}
 
 -- ## The mark left
 

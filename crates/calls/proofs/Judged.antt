@@ -1,17 +1,17 @@
 -- From a judging that settles to a call's outcome.
-use Prim.Native.Nat.{ℕ, _+_, _*_, _≤_, _<_}
-use native.Mathlib.Omega.{arith}
-use mathlib.Core.Path.{_≡_, refl, sym, ap, _∙_}
+use Prim.Native.Nat.{ℕ, _≤_, _<_}
+use mathlib.Core.Path.{_≡_, refl, sym, subst}
 use mathlib.Core.Bool.{Bool, true, false, cond, _&&_}
-use mathlib.Core.List.{List, _++_}
+use mathlib.Core.List.{List}
 use lib.Dec.{leb}
 use lib.ListN.{length, drop, replicate, length-replicate}
 use borrow.Author.Tests.{le-leb, lt-leb}
-use Rattle.lines.specs.Nodes.{Node as Line}
+use Rattle.lines.specs.Nodes.{Line}
 use Rattle.lines.specs.Writing.{putAt}
+use Rattle.lines.specs.Theorems.PutAt.{front-same}
 use Rattle.calls.specs.Judging.{Judged}
-use Rattle.calls.specs.Outcomes.{Outcome, outcome, packed, inOne, outRoom, workRoom, enough, cleared, settled, called}
-use Rattle.calls.specs.Parts.{replied, Settles}
+use Rattle.calls.specs.Outcomes.{outcome, outRoom, workRoom, enough, cleared, settled, called}
+use Rattle.calls.specs.Engine.Parts.{replied, Settles}
 use Rattle.calls.specs.declared.reply.Reply.{Reply}
 
 -- ## Reply 1
@@ -34,22 +34,9 @@ short-work j out work r e h = rw e (go (leb outRoom (length out)))
 
 -- what stands behind the n first places decides
 zeros-before : (n : ℕ) (left work : List ℕ) → drop n left ≡ drop n work → putAt left 0 (replicate n 0) ≡ putAt work 0 (replicate n 0)
-unfolding putAt
-zeros-before n left work h =
-    ap (λ (k : ℕ). replicate {A = ℕ} n 0 ++ drop k left) e ∙ ap (λ (t : List ℕ). replicate {A = ℕ} n 0 ++ t) h
-    ∙ ap (λ (k : ℕ). replicate {A = ℕ} n 0 ++ drop k work) (sym e)
-  where
-    e : 0 + length (replicate {A = ℕ} n 0) ≡ n
-    e = let q = length-replicate {A = ℕ} n 0 in omega arith
+zeros-before n left work h = front-same left work (replicate n 0) (subst (λ (k : ℕ). drop k left ≡ drop k work) (sym (length-replicate {A = ℕ} n 0)) h)
 
 pub settled-call : (j : Judged (List Line)) (out out′ work left : List ℕ) (r : Reply) → outRoom ≤ length out → workRoom ≤ length work → drop workRoom left ≡ drop workRoom work
     → Settles j out out′ r → outcome (r .number) (r .place) (r .length) out′ (putAt left 0 (replicate workRoom 0)) ≡ called j out work
 unfolding called enough cleared
 settled-call j out out′ work left r a b e h = rw (le-leb outRoom (length out) a, le-leb workRoom (length work) b, zeros-before workRoom left work e) (h _)
-
--- ## For C
-
-pub in-one-packed : (o : Outcome) (number place length answer : ℕ) (out work : List ℕ) → outcome number place length out work ≡ o
-    → answer ≡ number * 0x100000000 + place * 0x10000 + length → packed answer out ≡ inOne o
-unfolding inOne
-in-one-packed o number place length answer out work h e = rw e (ap inOne h)

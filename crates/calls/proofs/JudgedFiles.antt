@@ -12,21 +12,23 @@ use Rattle.lines.specs.declared.scan.Scan.{Scan}
 use Rattle.lines.specs.declared.scan.Scan.the-variants.{Lines, Wrong}
 use Rattle.lines.specs.declared.verdict.Verdict.{Verdict}
 use Rattle.lines.specs.declared.verdict.Verdict.the-variants.{Fine, Fault}
-use Rattle.lines.specs.Nodes.{nodes, nodeAt}
-use Rattle.lines.specs.Entries.{entries, entryAt}
-use Rattle.lines.specs.Files.{limitOf, scan, Scanned}
+use Rattle.lines.specs.Nodes.{nodes}
+use Rattle.lines.specs.Entries.{entries}
+use Rattle.lines.specs.Files.{limitOf, scan}
 use Rattle.lines.specs.Verdicts.{reply}
-use Rattle.lines.specs.Theorems.Reading.{reads-master, reads-program}
+use Rattle.lines.specs.Theorems.Reading.{reads-master, reads-program, scanned-whole, said-lines}
 use Rattle.lines.specs.Theorems.RoundTrip.{nodes-writable, master-of-nodes}
+use Rattle.lines.specs.Theorems.Places.{fault-below}
+use Rattle.lines.specs.Engine.Starts.{nodeAt, linesOf, entryAt, entriesOf, Scanned}
 use Rattle.runs.specs.declared.tree.Checked.{Checked}
 use Rattle.runs.specs.declared.tree.Checked.the-variants as checked
 use Rattle.runs.specs.Results.{Result, gives, stops}
 use Rattle.runs.specs.Reading.{readProgram, faultOf}
-use Rattle.runs.specs.Runs.{entriesOf, linesOf, Ended}
-use Rattle.runs.specs.Checking.{Sized, CheckedWhole}
+use Rattle.runs.specs.Engine.Runs.{Ended}
+use Rattle.runs.specs.Engine.Checking.{Sized, CheckedWhole}
 use Rattle.calls.specs.Judging.{formed, keeps, isTree, masterRule, judgedMaster, judgedProgram}
-use Rattle.calls.specs.Parts.{MasterGoes, ProgramGoes}
-use Rattle.calls.proofs.Places.{scanned-whole, said-lines, master-below, fault-below}
+use Rattle.calls.specs.Engine.Parts.{MasterGoes, ProgramGoes}
+use Rattle.calls.proofs.Places.{master-below}
 
 -- ## The master
 

@@ -1,8 +1,7 @@
+-- What the proofs of the functions share.
 pub mod Judged
 pub mod Steps
--- Writing: lines by where they begin, lines from the front of a buffer, the line of a word, a line with its standing
-pub mod LinesAt
-pub mod WritingLines
+-- Writing: the line of a word, a line with its standing
 pub mod WordLines
 pub mod HandedLines
 -- Scanned files and verdicts: the places that replies name

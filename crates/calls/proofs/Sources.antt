@@ -4,15 +4,14 @@ use mathlib.Core.List.{List, [], _∷_}
 use Prim.Native.Nat.{ℕ, zero, suc, _+_, _*_, _≤_, _<_}
 use native.Mathlib.Nat.{zero-add}
 use native.Mathlib.Omega.{arith}
-use lib.ListN.{length, getD, set, length-map, List·getD-map}
-use Rattle.lines.specs.Nodes.{nodeAt}
-use Rattle.lines.specs.Nodes.{Node as Line}
+use lib.ListN.{length, getD, set, length-map}
+use Rattle.lines.specs.Nodes.{Line, noLine}
 use Rattle.lines.specs.Entries.{Entry}
 use Rattle.lines.specs.Writing.{putAt}
-use Rattle.lines.specs.Theorems.Lists.{getD-any}
-use Rattle.values.specs.Words.{part, valueAt}
-use Rattle.values.specs.Theorems.Extents.{frame-part, put-part}
-use Rattle.runs.specs.declared.slots.Slots.{Slots as SlotWords}
+use Rattle.lines.specs.Theorems.LinesAt.{line-at}
+use Rattle.values.specs.Engine.Words.{part, valueAt}
+use Rattle.values.specs.Theorems.Extents.{frame-part}
+use Rattle.runs.specs.declared.slots.SlotWords.{SlotWords}
 use Rattle.values.specs.declared.extents.Extent.{Extent}
 use Rattle.runs.specs.declared.stop.Stop.{Stop}
 use Rattle.runs.specs.declared.stop.Run.{Run}
@@ -21,16 +20,17 @@ use Rattle.runs.specs.Results.{gives, stops, stopNumber, stopEntry}
 use Rattle.runs.specs.Programs.{Transformation}
 use Rattle.runs.specs.Reading.{readProgram}
 use Rattle.runs.specs.Showing.{show}
-use Rattle.runs.specs.Grounds.{noLine, oneMaster, showing}
-use Rattle.runs.specs.SlotWords.{noSlots}
-use Rattle.runs.specs.Runs.{linesOf, madeBy, lookupOf, slotsAt, Space, ShownBy}
+use Rattle.runs.specs.Grounds.{oneMaster, showing}
+use Rattle.runs.specs.Engine.SlotWords.{noSlots}
+use Rattle.runs.specs.Engine.Runs.{madeBy, lookupOf, slotsAt, Space, ShownBy}
 use Rattle.runs.specs.Theorems.WholePrograms.{program-placed}
 use Rattle.lines.specs.Verdicts.{reply}
-use Rattle.values.proofs.Loops.{Putting, putting-goes-on}
-use Rattle.runs.proofs.ShowRuns.{got, halted}
+use Rattle.lines.specs.Theorems.PutAt.{Putting, putting-goes-on, put-part}
+use Rattle.lines.specs.Engine.Starts.{nodeAt, linesOf}
+use Rattle.runs.specs.Theorems.RunAnswers.{got, halted}
 use Rattle.calls.specs.Judging.{ran}
 use Rattle.calls.specs.Outcomes.{workRoom}
-use Rattle.calls.specs.Parts.{sourceWords, Runnable, RunGoes}
+use Rattle.calls.specs.Engine.Parts.{sourceWords, Runnable, RunGoes}
 use Rattle.calls.proofs.Grounded.{no-slots-bound, same-showing}
 
 -- ## The words
@@ -58,8 +58,7 @@ module _ (s starts w₀ : List ℕ) (fits : length starts ≤ length w₀) where
       → Putting w₀ 0 words (length starts) (set w i (depth * 0x10000 + i)) (i + 1)
   loading-goes-on {w} {i} {depth} p h d =
       let many = length-map starts (nodeAt s) in
-      let here : getD (linesOf s starts) i noLine ≡ nodeAt s (getD starts i 0) =
-      getD-any (linesOf s starts) i noLine (nodeAt s 0) (omega arith) ∙ List·getD-map (nodeAt s) starts i 0 in
+      let here = line-at (nodeAt s) starts i noLine h in
       let word : depth * 0x10000 + i ≡ getD words i 0 =
       ap₂ (λ (x y : ℕ). x * 0x10000 + y) (d ∙ ap (λ (l : Line). l .depth) (sym here)) (sym (zero-add i)) ∙ sym (source-at 0 (linesOf s starts) i (omega arith)) in
       subst (λ (k : ℕ). Putting w₀ 0 words (length starts) (set w k (depth * 0x10000 + i)) (i + 1)) (zero-add i)

@@ -6,25 +6,27 @@ use mathlib.Core.Path.{_≡_, refl, sym, ap, subst, _∙_}
 use mathlib.Core.Bool.{Bool, true}
 use mathlib.Core.List.{List, [], _∷_}
 use lib.ListN.{length, take, length-map, length-take}
-use Rattle.lines.specs.Nodes.{nodes}
-use Rattle.lines.specs.Nodes.{Node as Line}
-use Rattle.lines.specs.Entries.{Entry, entries, entryAt}
+use Rattle.lines.specs.Nodes.{Line, nodes}
+use Rattle.lines.specs.Entries.{Entry, entries}
 use Rattle.lines.specs.Masters.{masterBounds}
 use Rattle.lines.specs.declared.verdict.Verdict.the-variants.{Fine}
-use Rattle.lines.specs.Writing.{AllWritable, fileOf}
+use Rattle.lines.specs.Writing.{fileOf}
+use Rattle.lines.specs.Theorems.Widths.{file-short}
+use Rattle.lines.specs.Engine.Starts.{linesOf, entryAt, entriesOf}
+use Rattle.lines.specs.Engine.Writes.{AllWritable, WroteLines}
 use borrow.Author.Tests.{le-leb}
 use Rattle.values.specs.Values.{Value, mostNodes, mostDepth, shallow, withinBounds}
 use Rattle.values.specs.Theorems.Forests.{Shallow}
-use Rattle.runs.specs.Trees.{Stands}
+use Rattle.runs.specs.Engine.Trees.{Stands}
 use Rattle.runs.specs.Theorems.WholePrograms.{program-placed}
 use Rattle.runs.specs.Theorems.Bounds.{master-shows-good}
-use Rattle.values.specs.Words.{valueAt}
+use Rattle.values.specs.Engine.Words.{valueAt}
 use Rattle.runs.specs.Results.{gives, _>>=_}
 use Rattle.runs.specs.Programs.{Transformation}
 use Rattle.runs.specs.Reading.{readProgram}
 use Rattle.runs.specs.Showing.{Shown}
 use Rattle.runs.specs.Grounds.{oneMaster, showing, view}
-use Rattle.runs.specs.Runs.{entriesOf, linesOf, Ended, madeBy}
+use Rattle.runs.specs.Engine.Runs.{Ended, madeBy}
 use Rattle.calls.specs.Judging.{Judged, judgedProgram, judgedMaster, judgedView, judgedStandings, ran}
 use Rattle.calls.specs.Outcomes.{settled, outRoom, workRoom}
 use Rattle.calls.specs.declared.reply.Reply.{Reply}
@@ -32,10 +34,10 @@ use Rattle.calls.specs.declared.reply.Step.{Step}
 use Rattle.calls.specs.declared.reply.Step.the-variants.{Goes, Refused}
 use Rattle.calls.specs.declared.reach.Reached.{Reached}
 use Rattle.calls.specs.declared.reach.Reached.the-variants as reached
-use Rattle.calls.specs.Parts.{replied, Refuses, Settles, ProgramGoes, ProgramJudged, MasterGoes, MasterJudged}
-use Rattle.calls.specs.Parts.{Runnable, RunGoes, RanBy, afterRun, RunReached, ReachedBy, WroteLines, viewLines, ViewRoom, Comparable, ComparedBack}
+use Rattle.calls.specs.Engine.Parts.{replied, Refuses, Settles, ProgramGoes, ProgramJudged, MasterGoes, MasterJudged}
+use Rattle.calls.specs.Engine.Parts.{Runnable, RunGoes, RanBy, afterRun, RunReached, ReachedBy, viewLines, ViewRoom, Comparable, ComparedBack}
 use Rattle.calls.specs.Theorems.Judged.{MasterPassed, master-passed}
-use Rattle.calls.specs.Theorems.FreshLines.{fresh-writable, fresh-few, length-view, file-short}
+use Rattle.calls.specs.Theorems.FreshLines.{fresh-writable, fresh-few, length-view}
 
 -- ## One step, then the rest
 

@@ -1,8 +1,7 @@
 -- What the judging of an edited view says, by what the scanner and the two comparisons answered.
 use mathlib.Core.Path.{_≡_, sym, ap, _∙_}
-use mathlib.Core.Bool.{Bool, true, false, cond}
-use mathlib.Core.List.{List, [], _∷_}
-use Prim.Native.Nat.{ℕ, suc, _+_, _-_, _≤_, _<_}
+use mathlib.Core.List.{List}
+use Prim.Native.Nat.{ℕ, _-_, _≤_, _<_}
 use native.Mathlib.Omega.{arith}
 use lib.ListN.{length, take, length-map}
 use Rattle.lines.specs.declared.scan.File.the-variants.{View}
@@ -10,45 +9,19 @@ use Rattle.lines.specs.declared.scan.Scan.{Scan}
 use Rattle.lines.specs.declared.scan.Scan.the-variants.{Lines, Wrong}
 use Rattle.lines.specs.declared.verdict.Verdict.{Verdict}
 use Rattle.lines.specs.declared.verdict.Verdict.the-variants.{Fine, Fault}
-use Rattle.lines.specs.Files.{limitOf, scan, Scanned}
+use Rattle.lines.specs.Files.{limitOf, scan}
 use Rattle.lines.specs.Hex.{decode}
 use Rattle.lines.specs.Lines.{cut}
-use Rattle.lines.specs.Nodes.{nodes, nodeAt, nodeOf}
-use Rattle.lines.specs.Nodes.{Node as Line}
-use Rattle.lines.specs.Verdicts.{reply, firstFrom}
-use Rattle.lines.specs.Views.{sameLine, differenceFrom, firstDifference, programMarked, programMark}
-use Rattle.lines.specs.Theorems.Reading.{reads-view, scan-count}
+use Rattle.lines.specs.Nodes.{Line, nodes, nodeOf}
+use Rattle.lines.specs.Verdicts.{reply}
+use Rattle.lines.specs.Views.{firstDifference, programMarked, programMark}
+use Rattle.lines.specs.Theorems.Reading.{reads-view, scan-count, scanned-whole, said-lines}
+use Rattle.lines.specs.Theorems.Places.{first-below, fault-below, difference-inside}
 use Rattle.lines.specs.Theorems.RoundTrip.{nodes-writable, view-of-nodes}
+use Rattle.lines.specs.Engine.Starts.{Scanned, nodeAt, linesOf}
 use Rattle.runs.specs.Results.{stops}
-use Rattle.runs.specs.Runs.{linesOf}
 use Rattle.calls.specs.Judging.{formed, keeps, judgedView}
-use Rattle.calls.specs.Parts.{ViewGoes}
-use Rattle.calls.proofs.Places.{scanned-whole, said-lines}
-
--- ## Places
-
-first-inside : {A : Type 0} (fault : A → Bool) (k : ℕ) (xs : List A) (line : ℕ) → firstFrom fault k xs ≡ Fault line → line < k + length xs
-unfolding firstFrom
-first-inside fault k [] line e = absurd (let z : _≡_ {A = ℕ} 0 1 = cc in omega arith)
-first-inside fault k (x ∷ xs) line e = go (fault x) e (first-inside fault (suc k) xs line)
-  where
-    go : (b : Bool) → cond b (Fault k) (firstFrom fault (suc k) xs) ≡ Fault line
-        → (firstFrom fault (suc k) xs ≡ Fault line → line < suc k + length xs) → line < k + suc (length xs)
-    go true h ih = let z : k ≡ line = cc in omega arith
-    go false h ih = let z = ih h in omega arith
-
--- it may stand behind the view's last line
-difference-inside : (k : ℕ) (vs fs : List Line) (line : ℕ) → differenceFrom k vs fs ≡ Fault line → line ≤ k + length vs
-unfolding differenceFrom
-difference-inside k [] [] line e = absurd (let z : _≡_ {A = ℕ} 0 1 = cc in omega arith)
-difference-inside k [] (f ∷ fs) line e = let z : k ≡ line = cc in omega arith
-difference-inside k (v ∷ vs) [] line e = let z : k ≡ line = cc in omega arith
-difference-inside k (v ∷ vs) (f ∷ fs) line e = go (sameLine v f) e (difference-inside (suc k) vs fs line)
-  where
-    go : (b : Bool) → cond b (differenceFrom (suc k) vs fs) (Fault k) ≡ Fault line
-        → (differenceFrom (suc k) vs fs ≡ Fault line → line ≤ suc k + length vs) → line ≤ k + suc (length vs)
-    go true h ih = let z = ih h in omega arith
-    go false h ih = let z : k ≡ line = cc in omega arith
+use Rattle.calls.specs.Engine.Parts.{ViewGoes}
 
 -- ## Answers
 
@@ -114,7 +87,7 @@ module _ {s before noted : List ℕ} {r : Scan} (x : Scanned View s before noted
       mark-place : (line : ℕ) → u ≡ Fault line → line < 0x10000
       unfolding programMark
       mark-place line f =
-          let p = first-inside programMarked 0 (linesOf s (take (n - 0) noted)) line (sym marks ∙ f) in
+          let p = fault-below _ (first-below programMarked 0 (linesOf s (take (n - 0) noted))) line (sym marks ∙ f) in
           omega (arith, p, part-few)
 
       view-goes : u ≡ Fine → ViewGoes fresh s noted n

@@ -1,28 +1,19 @@
 -- Steps of the loops over a view's lines: the first line with a text, and the word of what a line brings.
-use mathlib.Core.Path.{_≡_, refl, sym, ap, ap₂, _∙_}
+use mathlib.Core.Path.{_≡_, sym, ap, ap₂, _∙_}
 use mathlib.Core.Bool.{true, false}
-use mathlib.Core.List.{List, [], _∷_, map}
-use Prim.Native.Nat.{ℕ, zero, suc, _+_, _<_}
-use native.Mathlib.Nat.{not-suc-le-zero, le-of-suc-le-suc}
+use mathlib.Core.List.{List, _∷_}
+use Prim.Native.Nat.{ℕ, _+_, _<_}
 use native.Mathlib.Numerals.{add-one}
 use native.Mathlib.Omega.{arith}
 use borrow.Author.Tests.{eq-eqb, ne-eqb}
 use lib.ListN.{length, getD, drop, length-map}
-use Rattle.lines.specs.Texts.{textAt, sameText}
-use Rattle.lines.specs.Nodes.{nodeAt}
-use Rattle.lines.specs.Nodes.{Node as Line}
-use Rattle.lines.proofs.Masters.{nodes-one}
-use Rattle.lines.proofs.Views.{text-of}
+use Rattle.lines.specs.Texts.{sameText}
+use Rattle.lines.specs.Nodes.{Line, noLine}
+use Rattle.lines.specs.Theorems.Lists.{map-at}
+use Rattle.lines.specs.Theorems.LinesAt.{nodes-one, line-at, text-at}
+use Rattle.lines.specs.Engine.Starts.{textAt, nodeAt, linesOf}
 use Rattle.values.specs.Theorems.MergeLaws.{sameText-refl}
-use Rattle.runs.specs.Grounds.{noLine}
-use Rattle.runs.specs.Runs.{linesOf}
-use Rattle.calls.specs.Parts.{firstWith, broughtWord, broughtWords}
-
--- what a list of readings has at a place
-pub read-at : {A : Type 0} (read : ℕ → A) (places : List ℕ) (i : ℕ) (none : A) → i < length places → getD (map read places) i none ≡ read (getD places i 0)
-read-at read [] i none h = absurd (not-suc-le-zero h)
-read-at read (p ∷ places) zero none h = refl
-read-at read (p ∷ places) (suc i) none h = read-at read places i none (le-of-suc-le-suc h)
+use Rattle.calls.specs.Engine.Parts.{firstWith, broughtWord, broughtWords}
 
 -- ## The first line with a text
 
@@ -44,12 +35,12 @@ module _ (view lines : List ℕ) (i : ℕ) (inside : i < length lines) (j : ℕ)
   fromHere = firstWith text j (linesOf view (drop j lines))
 
   own : nodeAt view (getD lines i 0) .text ≡ text
-  own = ap (λ (l : Line). l .text) (sym (read-at (nodeAt view) lines i noLine inside))
+  own = ap (λ (l : Line). l .text) (sym (line-at (nodeAt view) lines i noLine inside))
 
   -- what the code compares
   compared : {a b : ℕ} → a ≡ getD lines j 0 + 10 → b ≡ getD lines i 0 + 10
       → sameText (textAt view a) (textAt view b) ≡ sameText (nodeAt view (getD lines j 0) .text) text
-  compared {a} {b} p q = ap₂ sameText (text-of view (getD lines j 0) a p) (text-of view (getD lines i 0) b q ∙ own)
+  compared {a} {b} p q = ap₂ sameText (text-at view (getD lines j 0) p) (text-at view (getD lines i 0) q ∙ own)
 
   pub found-here : {a b : ℕ} → j < length lines → a ≡ getD lines j 0 + 10 → b ≡ getD lines i 0 + 10
       → sameText (textAt view a) (textAt view b) ≡ true → fromHere ≡ j
@@ -70,7 +61,7 @@ module _ (view lines : List ℕ) (i : ℕ) (inside : i < length lines) (j : ℕ)
 -- the mark that the code reads
 pub mark-read : (view lines : List ℕ) (i : ℕ) → i < length lines → {m : ℕ} → m ≡ nodeAt view (getD lines i 0) .mark
     → m ≡ (getD (linesOf view lines) i noLine) .mark
-mark-read view lines i h e = e ∙ ap (λ (l : Line). l .mark) (sym (read-at (nodeAt view) lines i noLine h))
+mark-read view lines i h e = e ∙ ap (λ (l : Line). l .mark) (sym (line-at (nodeAt view) lines i noLine h))
 
 module _ (es : List Line) (l : Line) where
   pub word-changed : {n : ℕ} → l .mark ≡ 1 → n ≡ firstWith (l .text) 0 es → 4 + n ≡ broughtWord es l
@@ -90,15 +81,10 @@ module _ (es : List Line) (l : Line) where
 pub length-brought : (es : List Line) → length (broughtWords es) ≡ length es
 length-brought es = length-map es (broughtWord es)
 
-mapped-at : (f : Line → ℕ) (es : List Line) (i : ℕ) → i < length es → getD (map f es) i 0 ≡ f (getD es i noLine)
-mapped-at f [] i h = absurd (not-suc-le-zero h)
-mapped-at f (l ∷ es) zero h = refl
-mapped-at f (l ∷ es) (suc i) h = mapped-at f es i (le-of-suc-le-suc h)
-
 module _ (view lines : List ℕ) where
   pub words-long : length (broughtWords (linesOf view lines)) ≡ length lines
   words-long = length-brought (linesOf view lines) ∙ length-map lines (nodeAt view)
 
   pub word-at : (i : ℕ) → i < length lines
       → getD (broughtWords (linesOf view lines)) i 0 ≡ broughtWord (linesOf view lines) (getD (linesOf view lines) i noLine)
-  word-at i h = mapped-at (broughtWord (linesOf view lines)) (linesOf view lines) i (omega (arith, length-map lines (nodeAt view)))
+  word-at i h = map-at (broughtWord (linesOf view lines)) (linesOf view lines) i 0 noLine (omega (arith, length-map lines (nodeAt view)))

@@ -1,30 +1,29 @@
 -- The line of a word: its head by the half that the origin lies in, its text from the lookup; and the lines of a view, word by word.
 use mathlib.Core.Path.{_≡_, refl, sym, _∙_, ap}
 use mathlib.Core.Bool.{Bool, true, cond}
-use mathlib.Core.List.{List, [], _∷_, map}
+use mathlib.Core.List.{List, [], _∷_}
 use Prim.Native.Nat.{ℕ, zero, suc, _+_, _/_, _%_, _≤_, _<_}
 use native.Mathlib.Nat.{not-suc-le-zero, le-of-suc-le-suc}
 use native.Mathlib.Omega.{arith}
 use lib.Dec.{leb}
-use lib.ListN.{length, getD, length-map, List·getD-map}
+use lib.ListN.{length, getD, length-map}
 use borrow.Author.Tests.{lt-ltb, le-ltb, leb-true}
 use Rattle.lines.specs.declared.write.Head.{Head}
 use Rattle.lines.specs.Entries.{Entry}
-use Rattle.lines.specs.Nodes.{untouchedMark, programNumber}
-use Rattle.lines.specs.Nodes.{Node as Line}
+use Rattle.lines.specs.Nodes.{Line, untouchedMark, programNumber, noLine}
 use Rattle.lines.specs.Theorems.Bools.{and-left, and-right}
-use Rattle.lines.specs.Theorems.Lists.{getD-any}
-use Rattle.lines.specs.Writing.{headed}
+use Rattle.lines.specs.Theorems.Lists.{map-at}
+use Rattle.lines.specs.Theorems.LinesAt.{line-at}
+use Rattle.lines.specs.Theorems.WritingLines.{Fitting}
+use Rattle.lines.specs.Engine.Writes.{headed}
 use Rattle.values.specs.Values.{Origin, master, program, Node, Value, elementOf, bytesOf, shallow, withinBounds, mostNodes}
-use Rattle.values.specs.Words.{part, originOf, nodeOf, valueAt}
+use Rattle.values.specs.Engine.Words.{part, originOf, nodeOf, valueAt}
 use Rattle.values.specs.Theorems.Extents.{length-part, getD-part}
 use Rattle.values.specs.Theorems.WordLaws.{length-value}
-use Rattle.runs.specs.Grounds.{noLine, numberedFrom, shownLine, view}
-use Rattle.runs.specs.Runs.{madeBy, lookupOf}
-use Rattle.calls.specs.Parts.{wordLine, viewLines, ViewRoom}
+use Rattle.runs.specs.Grounds.{numberedFrom, shownLine, view}
+use Rattle.runs.specs.Engine.Runs.{madeBy, lookupOf}
+use Rattle.calls.specs.Engine.Parts.{wordLine, viewLines, ViewRoom}
 use Rattle.calls.specs.Theorems.ShownNumbers.{line-of}
-use Rattle.calls.proofs.LinesAt.{line-at}
-use Rattle.calls.proofs.WritingLines.{Fitting}
 
 -- a head by its fields
 pub head-is : {d d′ k k′ m m′ n n′ : ℕ} → d ≡ d′ → k ≡ k′ → m ≡ m′ → n ≡ n′
@@ -95,7 +94,7 @@ module _ {E : List Entry} {L : List Line} {w : List ℕ} {len : ℕ} {out : List
   view-at i h =
       let line : Node → Line = λ n. shownLine (numberedFrom 0 L) (n .depth) (n .origin) in
       let d = nodeOf (madeBy E) 0 in
-      getD-any (map line value) i noLine (line d) (omega (arith, view-long)) ∙ (List·getD-map line value i d ∙ ap line (value-at i d h))
+      map-at line value i noLine d (omega (arith, value-long)) ∙ ap line (value-at i d h)
 
   -- depths are bytes
   pub view-depth : (i : ℕ) → i < len → getD w (128 + i) 0 / 0x10000 < 256

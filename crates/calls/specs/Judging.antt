@@ -1,5 +1,16 @@
 -- The replies 2 to 11, in the order of document 01's table: "the whole file is judged for one number before the next".
 -- Reply 0 and reply 1 are in Outcomes.
+--
+-- How to read this page and the others of specs/:
+--   unfoldable f, abbrev f   f is defined by the lines below; a theorem opens an unfoldable f only where it says `unfolding f`
+--   x ← a                    in a `do`: what a gives is x, and the next line goes on; where a stops, the whole stops with what a stopped with
+--   a                        as a line of a `do`: the same, without a name for what a gives
+--   ensure b s               goes on if b is true, and else stops with s
+--   cond b x y               x if b is true, else y
+--   elim b [ true ↦ x | .. ] by cases: x if b is true, and so on
+--   r .field, p .0, p .1     a field of a record; the first and the second part of a pair
+--   leb, ltb, eqb            at most, less, equal, as true or false; getD l i d is place i of l, and d behind its end
+--   A × B, A ⊎ B, A → ⊥      both; one of them; not A. (x : A) × B is: some x, with B of it
 use Prim.Native.Nat.{ℕ}
 use mathlib.Core.Bool.{Bool, true, false}
 use mathlib.Core.List.{List}
@@ -9,8 +20,7 @@ use Rattle.lines.specs.declared.scan.Scan.the-variants.{Lines, Wrong}
 use Rattle.lines.specs.declared.verdict.Verdict.{Verdict}
 use Rattle.lines.specs.declared.verdict.Verdict.the-variants.{Fine, Fault}
 use Rattle.lines.specs.Files.{scan}
-use Rattle.lines.specs.Nodes.{nodes}
-use Rattle.lines.specs.Nodes.{Node as Line}
+use Rattle.lines.specs.Nodes.{Line, nodes}
 use Rattle.lines.specs.Entries.{entries}
 use Rattle.lines.specs.Masters.{masterBounds, unmarked}
 use Rattle.lines.specs.Verdicts.{Reply, reply, earlier}
@@ -55,7 +65,7 @@ judgedProgram program = do
   formed 2 (scan Program program)  -- 2: program line of wrong form, or line 96 present
   isTree 3 (readProgram (entries program))  -- 3: program breaks the tree or a bound
 
--- what reply 5 asks of a master, by whether a view is put back into it: "a master given to showing may carry marks"
+-- what reply 5 asks of a master, by whether a view is put back into it: "A master given to showing may carry marks"
 unfoldable pub masterRule : Bool → List Line → Verdict
 masterRule false ls = masterBounds ls
 masterRule true ls = earlier (masterBounds ls) (unmarked ls)

@@ -1,4 +1,8 @@
+-- What a reader believes: the order of judging, what a call leaves, and the three demands
 pub mod Judging
 pub mod Outcomes
-pub mod Parts
+pub mod Demands
+-- What the engine's own contracts speak of
+pub mod Engine
+-- What is proved of these
 pub mod Theorems

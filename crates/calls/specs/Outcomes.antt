@@ -1,10 +1,10 @@
 -- What a call leaves: its number, place and length, the output buffer and the work slice.
-use Prim.Native.Nat.{ℕ, _+_, _*_}
+use Prim.Native.Nat.{ℕ}
 use mathlib.Core.Bool.{Bool, cond, _&&_}
 use mathlib.Core.List.{List}
 use lib.Dec.{leb}
 use lib.ListN.{length, replicate}
-use Rattle.lines.specs.Nodes.{Node as Line}
+use Rattle.lines.specs.Nodes.{Line}
 use Rattle.lines.specs.Writing.{fileOf, putAt}
 use Rattle.runs.specs.Results.{gives, stops}
 use Rattle.calls.specs.Judging.{Judged, judgedShow, judgedPutBack}
@@ -40,20 +40,3 @@ showCall master program out work = called (judgedShow master program) out work
 
 unfoldable pub putBackCall : (master program edited out work : List ℕ) → Outcome
 putBackCall master program edited out work = called (judgedPutBack master program edited) out work
-
--- ## The forms for C: "returns number times 2^32 plus place times 2^16 plus length", and "brings its own work slice"
-
-pub data PackedOutcome : Type 0 where
-  packed : (answer : ℕ) (out : List ℕ) → PackedOutcome
-
-unfoldable pub inOne : Outcome → PackedOutcome
-inOne (outcome number place length out work) = packed (number * 0x100000000 + place * 0x10000 + length) out
-
-abbrev pub ownWork : List ℕ
-ownWork = replicate workRoom 0
-
-unfoldable pub showInC : (master program out : List ℕ) → PackedOutcome
-showInC master program out = inOne (showCall master program out ownWork)
-
-unfoldable pub putBackInC : (master program edited out : List ℕ) → PackedOutcome
-putBackInC master program edited out = inOne (putBackCall master program edited out ownWork)

@@ -13,9 +13,9 @@ use runs::tree::check_program;
 ghost use mathlib.Core.Path.{_≡_};
 ghost use Prim.Native.Nat.{_≤_};
 ghost use lib.ListN.{length};
-ghost use Rattle.runs.specs.Runs.{linesOf};
+ghost use Rattle.lines.specs.Engine.Starts.{linesOf};
 ghost use Rattle.calls.specs.Judging.{masterRule};
-ghost use Rattle.calls.specs.Parts.{ProgramJudged, MasterJudged};
+ghost use Rattle.calls.specs.Engine.Parts.{ProgramJudged, MasterJudged};
 
 // Leaves where each entry begins, and the place behind its subtree.
 pub fn judge_program(program: &[u8], entries: &mut [u16], ends: &mut [u8]) -> Step

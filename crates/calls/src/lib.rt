@@ -1,5 +1,4 @@
 // The calls: showing a view and putting it back, on the bytes of files, with the twelve replies.
-pub mod c_forms;
 pub mod files;
 pub mod put_back;
 pub mod reach;

@@ -29,12 +29,12 @@ ghost use mathlib.Core.List.{List};
 ghost use Prim.Native.Nat.{ℕ, _+_, _≤_};
 ghost use lib.ListN.{length};
 ghost use Rattle.lines.specs.Verdicts.{firstFrom};
+ghost use Rattle.lines.specs.Engine.Starts.{linesOf, entriesOf};
 ghost use Rattle.values.specs.Standings.{isClash};
-ghost use Rattle.values.specs.Words.{standingsAt};
-ghost use Rattle.runs.specs.Runs.{entriesOf, linesOf};
+ghost use Rattle.values.specs.Engine.Words.{standingsAt};
 ghost use Rattle.calls.specs.Judging.{judgedPutBack};
 ghost use Rattle.calls.specs.Outcomes.{outRoom, workRoom, outcome, putBackCall};
-ghost use Rattle.calls.specs.Parts.{Settles, Carriable, CarriedBack, Comparable, ComparedBack};
+ghost use Rattle.calls.specs.Engine.Parts.{Settles, Carriable, CarriedBack, Comparable, ComparedBack};
 
 // The first clash among the standings at HANDED.
 fn first_clash(work: &[u32], len: usize) -> Verdict

@@ -7,7 +7,7 @@ use crate::run_program::run_program;
 ghost use Prim.Native.Nat.{_≤_};
 ghost use lib.ListN.{length};
 ghost use Rattle.calls.specs.Outcomes.{workRoom};
-ghost use Rattle.calls.specs.Parts.{ReachedBy};
+ghost use Rattle.calls.specs.Engine.Parts.{ReachedBy};
 
 // How many entries, master nodes and shown nodes there are; or the refusal.
 pub enum Reached {

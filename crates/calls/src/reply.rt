@@ -1,7 +1,7 @@
 // What a call answers, and a step of its judging.
 ghost use mathlib.Core.Path.{_≡_};
 ghost use Prim.Native.Nat.{_<_};
-ghost use Rattle.calls.specs.Parts.{replied};
+ghost use Rattle.calls.specs.Engine.Parts.{replied};
 
 pub struct Reply {
     pub number: u8,

@@ -13,10 +13,10 @@ ghost use mathlib.Core.Path.{_≡_};
 ghost use Prim.Native.Nat.{_≤_};
 ghost use lib.ListN.{length};
 ghost use Rattle.lines.specs.Writing.{putAt};
+ghost use Rattle.lines.specs.Engine.Starts.{linesOf, entriesOf};
 ghost use Rattle.runs.specs.Results.{stopNumber, stopEntry};
-ghost use Rattle.runs.specs.Runs.{entriesOf, linesOf};
 ghost use Rattle.calls.specs.Outcomes.{workRoom};
-ghost use Rattle.calls.specs.Parts.{replied, sourceWords, Runnable, RanBy};
+ghost use Rattle.calls.specs.Engine.Parts.{replied, sourceWords, Runnable, RanBy};
 
 // Each master node as a word, at the foot of the work slice.
 fn load(master: &[u8], nodes: &[u16], work: &mut [u32])

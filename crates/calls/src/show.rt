@@ -15,7 +15,7 @@ ghost use Prim.Native.Nat.{_≤_};
 ghost use lib.ListN.{length};
 ghost use Rattle.calls.specs.Judging.{judgedShow};
 ghost use Rattle.calls.specs.Outcomes.{outRoom, workRoom, outcome, showCall};
-ghost use Rattle.calls.specs.Parts.{Settles};
+ghost use Rattle.calls.specs.Engine.Parts.{Settles};
 
 // What is judged once there is room.
 fn judged_show(master: &[u8], program: &[u8], out: &mut [u8], work: &mut [u32]) -> Reply

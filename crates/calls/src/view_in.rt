@@ -18,9 +18,9 @@ ghost use mathlib.Core.Path.{_≡_};
 ghost use Prim.Native.Nat.{_≤_, _<_};
 ghost use lib.ListN.{length, getD};
 ghost use Rattle.lines.specs.Writing.{putAt};
-ghost use Rattle.runs.specs.Grounds.{noLine};
-ghost use Rattle.runs.specs.Runs.{linesOf};
-ghost use Rattle.calls.specs.Parts.{ViewJudged, firstWith, broughtWord, broughtWords};
+ghost use Rattle.lines.specs.Nodes.{noLine};
+ghost use Rattle.lines.specs.Engine.Starts.{linesOf};
+ghost use Rattle.calls.specs.Engine.Parts.{ViewJudged, firstWith, broughtWord, broughtWords};
 
 // Leaves where each line of the view begins.
 pub fn judge_view(view: &[u8], lines: &mut [u16], fresh: &[u8], fresh_lines: &[u16]) -> Step

@@ -13,10 +13,10 @@ ghost use mathlib.Core.Path.{_≡_};
 ghost use Prim.Native.Nat.{_+_, _≤_, _<_, _/_};
 ghost use lib.ListN.{length};
 ghost use Rattle.lines.specs.Nodes.{untouchedMark};
-ghost use Rattle.lines.specs.Writing.{headed, Written};
-ghost use Rattle.lines.specs.Writing.{lineOf as written};
-ghost use Rattle.runs.specs.Runs.{entriesOf, linesOf};
-ghost use Rattle.calls.specs.Parts.{wordLine, viewLines, ViewRoom, WroteLines};
+ghost use Rattle.lines.specs.Writing.{lineBytes};
+ghost use Rattle.lines.specs.Engine.Starts.{entriesOf, linesOf};
+ghost use Rattle.lines.specs.Engine.Writes.{headed, Written, WroteLines};
+ghost use Rattle.calls.specs.Engine.Parts.{wordLine, viewLines, ViewRoom};
 
 // A node's fields: those of the master's line of its number, or of what an entry of the program makes.
 fn head_of(program: &[u8], entries: &[u16], master: &[u8], nodes: &[u16], word: u32) -> Head
@@ -65,9 +65,9 @@ fn write_word(
     pos: usize,
 ) -> usize
     requires { ⌜ word / 0x10000 < 256 ⌝ }
-    requires { ⌜ pos + length (written (wordLine (entriesOf (now program) (now entries)) (linesOf (now master) (now nodes)) word)) ≤ length (now out) ⌝ }
+    requires { ⌜ pos + length (lineBytes (wordLine (entriesOf (now program) (now entries)) (linesOf (now master) (now nodes)) word)) ≤ length (now out) ⌝ }
     ensures { λ r. ⌜ (let line = wordLine (entriesOf (now (program .entry)) (now (entries .entry))) (linesOf (now (master .entry)) (now (nodes .entry))) word in
-        Written (now (out .entry)) (now (out .exit)) pos (written line) r) ⌝ }
+        Written (now (out .entry)) (now (out .exit)) pos (lineBytes line) r) ⌝ }
 {
     let head = head_of(program, entries, master, nodes, word);
     let text = text_of_word(program, entries, nodes, word);

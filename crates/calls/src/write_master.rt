@@ -12,13 +12,12 @@ use values::standings::DELETED;
 ghost use mathlib.Core.Path.{_≡_};
 ghost use Prim.Native.Nat.{_+_, _≤_};
 ghost use lib.ListN.{length};
-ghost use Rattle.lines.specs.Nodes.{nodeAt};
-ghost use Rattle.lines.specs.Writing.{Written};
-ghost use Rattle.lines.specs.Writing.{lineOf as written};
+ghost use Rattle.lines.specs.Writing.{lineBytes};
+ghost use Rattle.lines.specs.Engine.Starts.{nodeAt, linesOf};
+ghost use Rattle.lines.specs.Engine.Writes.{Written, WroteLines};
 ghost use Rattle.values.specs.Standings.{handsBack};
-ghost use Rattle.values.specs.Words.{standingOf};
-ghost use Rattle.runs.specs.Runs.{linesOf};
-ghost use Rattle.calls.specs.Parts.{markLeft, textsOf, handedLines, HandingRoom, WroteLines};
+ghost use Rattle.values.specs.Engine.Words.{standingOf};
+ghost use Rattle.calls.specs.Engine.Parts.{markLeft, textsOf, handedLines, HandingRoom};
 
 // The mark that a standing leaves on a line with this one.
 fn mark_left(mark: u8, word: u32) -> u8
@@ -44,9 +43,9 @@ fn write_handed(
     pos: usize,
 ) -> usize
     requires { ⌜ (let standing = standingOf (textsOf (linesOf (now view) (now lines))) word in
-        pos + length (written (handsBack (nodeAt (now master) start) standing)) ≤ length (now out)) ⌝ }
+        pos + length (lineBytes (handsBack (nodeAt (now master) start) standing)) ≤ length (now out)) ⌝ }
     ensures { λ r. ⌜ (let standing = standingOf (textsOf (linesOf (now (view .entry)) (now (lines .entry)))) word in
-        Written (now (out .entry)) (now (out .exit)) pos (written (handsBack (nodeAt (now (master .entry)) start) standing)) r) ⌝ }
+        Written (now (out .entry)) (now (out .exit)) pos (lineBytes (handsBack (nodeAt (now (master .entry)) start) standing)) r) ⌝ }
 {
     let head = Head {
         depth: depth_at(master, start),

@@ -1,16 +1,17 @@
 -- Steps of the loops that judge one line.
 use mathlib.Core.Path.{_≡_}
 use mathlib.Core.Bool.{Bool, true, false, _&&_}
-use mathlib.Core.List.{List, [], _∷_}
+use mathlib.Core.List.{List}
 use Prim.Native.Nat.{ℕ, _+_, _≤_, _<_}
 use native.Mathlib.Omega.{arith}
 use lib.Dec.{eqb}
 use lib.ListN.{length, getD, drop, drop-of-length-le}
-use Rattle.lines.specs.Hex.{isHex, pairAt, decode}
+use Rattle.lines.specs.Hex.{isHex, decode}
 use Rattle.lines.specs.Lines.{pairsThenEnd}
 use Rattle.lines.specs.Nodes.{allOf}
 use Rattle.lines.specs.Theorems.Lists.{drop-one, drop-two}
 use Rattle.lines.specs.Theorems.Pairs.{decode-pair, decode-end}
+use Rattle.lines.specs.Engine.Starts.{pairAt}
 
 -- the rest of a line: its last byte, a pair more, and nothing
 module _ (s : List ℕ) (i : ℕ) where

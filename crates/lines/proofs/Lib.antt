@@ -1,3 +1,4 @@
+-- What the proofs of the functions share.
 pub mod Forms
 pub mod Scans
 pub mod Masters

@@ -1,16 +1,15 @@
 -- Steps of the comparisons: of two texts, and of a view's lines with the fresh ones.
 use mathlib.Core.Path.{_≡_, refl, ap}
 use mathlib.Core.Bool.{Bool, true, false, _&&_}
-use mathlib.Core.List.{List, [], _∷_, map}
+use mathlib.Core.List.{List, [], _∷_}
 use Prim.Native.Nat.{ℕ, _+_, _≤_, _<_}
 use native.Mathlib.Numerals.{add-one}
 use lib.Dec.{eqb}
 use lib.ListN.{length, getD, drop, drop-of-length-le}
 use borrow.Author.Tests.{eq-eqb, ne-eqb}
-use Rattle.lines.specs.declared.verdict.Verdict.{Verdict}
 use Rattle.lines.specs.declared.verdict.Verdict.the-variants.{Fine, Fault}
-use Rattle.lines.specs.Nodes.{Node, nodeAt}
-use Rattle.lines.specs.Texts.{textAt, sameText}
+use Rattle.lines.specs.Nodes.{Line}
+use Rattle.lines.specs.Texts.{sameText}
 use Rattle.lines.specs.Views.{sameHead, sameLine, differenceFrom}
 use Rattle.lines.specs.Theorems.Lists.{drop-one}
 
@@ -41,13 +40,8 @@ text-lengths (x ∷ a) (y ∷ b) h = go (eqb x y) (text-lengths a b (λ e. h (ap
     go true e = e
     go false e = refl
 
--- a node's text stands ten bytes behind the start of its line
-pub text-of : (s : List ℕ) (p a : ℕ) → a ≡ p + 10 → textAt s a ≡ nodeAt s p .text
-unfolding nodeAt
-text-of s p a e = ap (textAt s) e
-
 -- one line: what decides it
-module _ (v f : Node) where
+module _ (v f : Line) where
   pub line-head : sameHead v f ≡ false → sameLine v f ≡ false
   unfolding sameLine
   line-head e = rw e
@@ -65,15 +59,15 @@ pub no-difference : (n : ℕ) → differenceFrom n [] [] ≡ Fine
 unfolding differenceFrom
 no-difference n = refl
 
-pub view-short : (n : ℕ) (f : Node) (fs : List Node) → differenceFrom n [] (f ∷ fs) ≡ Fault n
+pub view-short : (n : ℕ) (f : Line) (fs : List Line) → differenceFrom n [] (f ∷ fs) ≡ Fault n
 unfolding differenceFrom
 view-short n f fs = refl
 
-pub view-long : (n : ℕ) (v : Node) (vs : List Node) → differenceFrom n (v ∷ vs) [] ≡ Fault n
+pub view-long : (n : ℕ) (v : Line) (vs : List Line) → differenceFrom n (v ∷ vs) [] ≡ Fault n
 unfolding differenceFrom
 view-long n v vs = refl
 
-module _ (n : ℕ) (v f : Node) (vs fs : List Node) where
+module _ (n : ℕ) (v f : Line) (vs fs : List Line) where
   pub difference-here : sameLine v f ≡ false → differenceFrom n (v ∷ vs) (f ∷ fs) ≡ Fault n
   unfolding differenceFrom
   difference-here e = rw e

@@ -5,13 +5,12 @@ use Prim.Native.Nat.{ℕ, suc, _+_, _*_, _≤_, _<_}
 use native.Mathlib.Nat.{add-zero}
 use native.Mathlib.Numerals.{add-one}
 use native.Mathlib.Omega.{arith}
-use lib.ListN.{length, getD, take, set, length-append}
+use lib.ListN.{length, getD, take, set}
 use lib.Seq.{sets, sets-eq, take-suc, length-take-le}
 use Rattle.lines.specs.Hex.{encode}
-use Rattle.lines.specs.Nodes.{Node}
-use Rattle.lines.specs.Writing.{bytesOf, lineOf, putAt}
+use Rattle.lines.specs.Nodes.{Line}
+use Rattle.lines.specs.Writing.{bytesOf, lineBytes, putAt}
 use Rattle.lines.specs.Theorems.Pairs.{length-encode, encode-append}
-use Rattle.lines.specs.Theorems.RoundTrip.{length-line}
 
 sets-append : (l : List ℕ) (i : ℕ) (a b : List ℕ) → sets (sets l i a) (i + length a) b ≡ sets l i (a ++ b)
 sets-append l i [] b = ap (λ (k : ℕ). sets l k b) (add-zero i)
@@ -34,9 +33,9 @@ put-next l i t j h e p q r =
     ∙ ap (λ (x : List ℕ). sets l i (encode x)) (sym (rw add-one (take-suc t j 0 h)))
 
 -- the line's end
-pub put-end : (n : Node) (l : List ℕ) (i : ℕ) {o : List ℕ} → o ≡ sets l i (encode (bytesOf n))
-    → (p : ℕ) → p ≡ i + (12 + 2 * length (n .text)) → i + length (lineOf n) ≤ length l → set o p 0x0A ≡ putAt l i (lineOf n)
-unfolding putAt lineOf bytesOf
+pub put-end : (n : Line) (l : List ℕ) (i : ℕ) {o : List ℕ} → o ≡ sets l i (encode (bytesOf n))
+    → (p : ℕ) → p ≡ i + (12 + 2 * length (n .text)) → i + length (lineBytes n) ≤ length l → set o p 0x0A ≡ putAt l i (lineBytes n)
+unfolding putAt lineBytes bytesOf
 put-end n l i e p q h =
     let b = bytesOf n in
     let z : length (encode b) ≡ 12 + 2 * length (n .text) = length-encode b ∙ omega arith in

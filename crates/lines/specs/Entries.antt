@@ -1,6 +1,6 @@
 -- Program lines: an operation byte and its operand; and the one table of operations.
 use Prim.Native.Nat.{ℕ, _+_}
-use mathlib.Core.Bool.{Bool, true, false, cond, _&&_}
+use mathlib.Core.Bool.{Bool, false, cond, _&&_}
 use mathlib.Core.List.{List, [], _∷_, map}
 use lib.ListN.{length, getD, drop}
 use lib.Dec.{leb, eqb}
@@ -9,10 +9,9 @@ use Rattle.lines.specs.declared.table.Class.the-variants.{Transformation
 use Rattle.lines.specs.declared.table.Shape.{Shape}
 use Rattle.lines.specs.declared.table.Shape.the-variants.{Nothing, Text, Tag, Slot, Missing}
 use Rattle.lines.specs.declared.table.Row.{Row}
-use Rattle.lines.specs.Hex.{between, decode, pairAt}
+use Rattle.lines.specs.Hex.{between, decode}
 use Rattle.lines.specs.Lines.{cut, isLine}
 use Rattle.lines.specs.Nodes.{isTag}
-use Rattle.lines.specs.Texts.{textAt}
 
 pub record Entry : Type 0 where
   pub operation : ℕ
@@ -85,15 +84,3 @@ slotOf e = getD (e .operand) 0 0
 
 unfoldable pub textOf : Entry → List ℕ
 textOf e = drop 1 (e .operand)
-
--- the operand that begins at place p
-unfoldable pub operandAt : Shape → List ℕ → ℕ → List ℕ
-operandAt Nothing s p = []
-operandAt Text s p = pairAt s p ∷ textAt s p
-operandAt Tag s p = pairAt s p ∷ textAt s p
-operandAt Slot s p = pairAt s p ∷ []
-operandAt Missing s p = []
-
--- the entry whose line begins at place p
-unfoldable pub entryAt : List ℕ → ℕ → Entry
-entryAt s p = record { operation = pairAt s p; operand = operandAt (rowOf (pairAt s p) .0) s (p + 2) }

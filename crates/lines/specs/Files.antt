@@ -1,15 +1,13 @@
 -- The three files: the form of their lines, how many there may be, and what scanning answers.
-use Prim.Native.Nat.{ℕ, suc, _*_, _≤_}
-use mathlib.Core.Path.{_≡_}
+use Prim.Native.Nat.{ℕ, suc, _*_}
 use mathlib.Core.Bool.{Bool, cond, _&&_}
-use mathlib.Core.List.{List, [], _∷_, _++_}
-use lib.ListN.{take, drop}
+use mathlib.Core.List.{List, [], _∷_}
 use lib.Dec.{ltb}
 use Rattle.lines.specs.declared.scan.File.{File}
 use Rattle.lines.specs.declared.scan.File.the-variants.{Program, Master, View}
 use Rattle.lines.specs.declared.scan.Scan.{Scan}
 use Rattle.lines.specs.declared.scan.Scan.the-variants.{Lines, Wrong}
-use Rattle.lines.specs.Lines.{cut, starts}
+use Rattle.lines.specs.Lines.{cut}
 use Rattle.lines.specs.Nodes.{nodeLine}
 use Rattle.lines.specs.Entries.{entryLine}
 
@@ -42,14 +40,3 @@ scanFrom form limit n (c ∷ cs) = cond (ltb n limit && form c) (scanFrom form l
 
 unfoldable pub scan : File → List ℕ → Scan
 scan file s = scanFrom (formOf file) (limitOf file) 0 (cut s)
-
--- the lines that have the form, before the answer
-abbrev pub taken : Scan → ℕ
-taken (Lines n) = n
-taken (Wrong n) = n
-
--- what the scanner leaves: its answer, and in `noted` where each line begins that it took
-pub record Scanned (file : File) (s before noted : List ℕ) (r : Scan) : Type 0 where
-  pub answer : r ≡ scan file s
-  pub few : taken r ≤ limitOf file
-  pub places : noted ≡ take (taken r) (starts s) ++ drop (taken r) before

@@ -1,8 +1,7 @@
 -- Upper-case hexadecimal digits, and the bytes that pairs of them are.
-use Prim.Native.Nat.{ℕ, suc, _+_, _*_, _-_, _/_, _%_}
-use mathlib.Core.Bool.{Bool, true, false, cond, _&&_, _||_}
+use Prim.Native.Nat.{ℕ, _+_, _*_, _-_, _/_, _%_}
+use mathlib.Core.Bool.{Bool, cond, _&&_, _||_}
 use mathlib.Core.List.{List, [], _∷_}
-use lib.ListN.{getD}
 use lib.Dec.{leb, ltb}
 
 abbrev pub between : ℕ → ℕ → ℕ → Bool
@@ -15,10 +14,6 @@ isHex b = between 0x30 0x39 b || between 0x41 0x46 b
 -- a digit's value; 0 for any other byte
 unfoldable pub hexValue : ℕ → ℕ
 hexValue b = cond (between 0x30 0x39 b) (b - 0x30) (cond (between 0x41 0x46 b) (b - 0x37) 0)
-
--- the byte of the pair at place p
-unfoldable pub pairAt : List ℕ → ℕ → ℕ
-pairAt s p = 16 * hexValue (getD s p 0) + hexValue (getD s (suc p) 0)
 
 -- the bytes of all pairs; a last byte that has no partner is left out
 unfoldable pub decode : List ℕ → List ℕ

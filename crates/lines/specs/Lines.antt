@@ -1,15 +1,10 @@
 -- A file as lines, each ended by byte 0A. An empty file has no lines.
-use Prim.Native.Nat.{ℕ, suc, _+_}
-use mathlib.Core.Bool.{Bool, true, false, cond, _&&_}
+use Prim.Native.Nat.{ℕ}
+use mathlib.Core.Bool.{Bool, false, cond, _&&_}
 use mathlib.Core.List.{List, [], _∷_}
 use lib.ListN.{length}
 use lib.Dec.{leb, eqb}
 use Rattle.lines.specs.Hex.{isHex, decode}
-
--- the bytes of the first line, its 0A counted
-unfoldable pub lineLength : List ℕ → ℕ
-lineLength [] = 0
-lineLength (x ∷ xs) = cond (eqb x 0x0A) 1 (suc (lineLength xs))
 
 unfoldable pub push : ℕ → List (List ℕ) → List (List ℕ)
 push x [] = (x ∷ []) ∷ []
@@ -19,14 +14,6 @@ push x (c ∷ cs) = (x ∷ c) ∷ cs
 unfoldable pub cut : List ℕ → List (List ℕ)
 cut [] = []
 cut (x ∷ xs) = cond (eqb x 0x0A) ((x ∷ []) ∷ cut xs) (push x (cut xs))
-
--- where each line begins, the first at place p
-unfoldable pub startsFrom : ℕ → List (List ℕ) → List ℕ
-startsFrom p [] = []
-startsFrom p (c ∷ cs) = p ∷ startsFrom (p + length c) cs
-
-unfoldable pub starts : List ℕ → List ℕ
-starts s = startsFrom 0 (cut s)
 
 -- whole pairs of digits, then 0A and nothing more
 unfoldable pub pairsThenEnd : List ℕ → Bool

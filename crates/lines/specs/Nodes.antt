@@ -4,11 +4,10 @@ use mathlib.Core.Bool.{Bool, true, false, cond, _&&_, not}
 use mathlib.Core.List.{List, [], _∷_, map}
 use lib.ListN.{length, getD, drop}
 use lib.Dec.{leb, eqb}
-use Rattle.lines.specs.Hex.{between, decode, pairAt}
+use Rattle.lines.specs.Hex.{between, decode}
 use Rattle.lines.specs.Lines.{cut, isLine}
-use Rattle.lines.specs.Texts.{textAt}
 
-pub record Node : Type 0 where
+pub record Line : Type 0 where
   pub depth : ℕ
   pub kind : ℕ
   pub mark : ℕ
@@ -25,7 +24,7 @@ changedMark = 1
 abbrev pub deletedMark : ℕ
 deletedMark = 2
 
-unfoldable pub isMarked : Node → Bool
+unfoldable pub isMarked : Line → Bool
 isMarked n = not (eqb (n .mark) untouchedMark)
 
 -- "Number FFFF means the node came from the program"
@@ -44,7 +43,7 @@ allOf f (x ∷ xs) = f x && allOf f xs
 unfoldable pub isTag : List ℕ → Bool
 isTag t = leb 1 (length t) && allOf (between 0x21 0x7E) t
 
--- what a kind asks of the mark and of the bytes. Kind 01, a text: any mark and any bytes. Kind 02, an element: "mark 01 stands only on a text", and a tag
+-- what a kind asks of the mark and of the bytes. Kind 01, a text: any mark and any bytes. Kind 02, an element: "Mark 01 stands only on a text", and a tag
 unfoldable pub kindRule : ℕ → ℕ → List ℕ → Bool
 kindRule kind mark text =
     cond (eqb kind 1) (leb mark deletedMark)
@@ -63,7 +62,7 @@ unfoldable pub nodeLine : List ℕ → Bool
 nodeLine c = isLine c && nodeForm (decode c)
 
 -- the node whose line has the bytes b: the number's high byte comes first
-abbrev pub nodeOf : List ℕ → Node
+abbrev pub nodeOf : List ℕ → Line
 nodeOf b =
     record {
       depth = getD b 0 0;
@@ -73,17 +72,14 @@ nodeOf b =
       text = drop 6 b;
     }
 
--- the nodes of a file
-unfoldable pub nodes : List ℕ → List Node
-nodes s = map (λ c. nodeOf (decode c)) (cut s)
+-- behind the last line stands one that the program made, unmarked
+abbrev pub noLine : Line
+noLine = record { depth = 0; kind = 1; mark = untouchedMark; number = programNumber; text = [] }
 
--- the node whose line begins at place p, field by field
-unfoldable pub nodeAt : List ℕ → ℕ → Node
-nodeAt s p =
-    record {
-      depth = pairAt s p;
-      kind = pairAt s (p + 2);
-      mark = pairAt s (p + 4);
-      number = 256 * pairAt s (p + 6) + pairAt s (p + 8);
-      text = textAt s (p + 10);
-    }
+-- line i
+abbrev pub lineAt : List Line → ℕ → Line
+lineAt ls i = getD ls i noLine
+
+-- the nodes of a file
+unfoldable pub nodes : List ℕ → List Line
+nodes s = map (λ c. nodeOf (decode c)) (cut s)

@@ -1,17 +1,8 @@
--- A text in a file is its length byte and then its bytes; it is known by the place of the length.
-use Prim.Native.Nat.{ℕ, zero, suc, _+_}
+-- When two texts are the same, and when they agree.
+use Prim.Native.Nat.{ℕ}
 use mathlib.Core.Bool.{Bool, true, false, _&&_}
 use mathlib.Core.List.{List, [], _∷_}
 use lib.Dec.{eqb}
-use Rattle.lines.specs.Hex.{pairAt}
-
--- k bytes, the first one's pair at place p
-unfoldable pub bytesFrom : List ℕ → ℕ → ℕ → List ℕ
-bytesFrom s p zero = []
-bytesFrom s p (suc k) = pairAt s p ∷ bytesFrom s (p + 2) k
-
-unfoldable pub textAt : List ℕ → ℕ → List ℕ
-textAt s p = bytesFrom s (p + 2) (pairAt s p)
 
 -- the same text, byte for byte: for tags, for the comparison of views and for merging
 unfoldable pub sameText : List ℕ → List ℕ → Bool

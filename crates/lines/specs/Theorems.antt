@@ -8,3 +8,10 @@ pub mod Reading
 pub mod Widths
 pub mod LongFiles
 pub mod RoundTrip
+pub mod LineRules
+pub mod MasterRules
+pub mod FirstFault
+pub mod Places
+pub mod LinesAt
+pub mod PutAt
+pub mod WritingLines

@@ -1,34 +1,34 @@
 -- A view beside the fresh one (replies 9 and 10).
 use Prim.Native.Nat.{ℕ, suc}
-use mathlib.Core.Bool.{Bool, true, false, cond, _&&_, _||_}
+use mathlib.Core.Bool.{Bool, cond, _&&_, _||_}
 use mathlib.Core.List.{List, [], _∷_}
 use lib.Dec.{eqb}
 use Rattle.lines.specs.declared.verdict.Verdict.{Verdict}
 use Rattle.lines.specs.declared.verdict.Verdict.the-variants.{Fine, Fault}
-use Rattle.lines.specs.Nodes.{Node, changedMark, isMarked, programNumber}
+use Rattle.lines.specs.Nodes.{Line, changedMark, isMarked, programNumber}
 use Rattle.lines.specs.Verdicts.{firstFrom}
 use Rattle.lines.specs.Texts.{sameText}
 
-unfoldable pub sameHead : Node → Node → Bool
+unfoldable pub sameHead : Line → Line → Bool
 sameHead v f = eqb (v .depth) (f .depth) && (eqb (v .kind) (f .kind) && eqb (v .number) (f .number))
 
 -- reply 9 on one line: "depth, kind, number, or in the bytes of a line not marked 01"
-unfoldable pub sameLine : Node → Node → Bool
+unfoldable pub sameLine : Line → Line → Bool
 sameLine v f = sameHead v f && (eqb (v .mark) changedMark || sameText (v .text) (f .text))
 
 -- "first differing line; the shorter count", from line n on
-unfoldable pub differenceFrom : ℕ → List Node → List Node → Verdict
+unfoldable pub differenceFrom : ℕ → List Line → List Line → Verdict
 differenceFrom n [] [] = Fine
 differenceFrom n [] (f ∷ fs) = Fault n
 differenceFrom n (v ∷ vs) [] = Fault n
 differenceFrom n (v ∷ vs) (f ∷ fs) = cond (sameLine v f) (differenceFrom (suc n) vs fs) (Fault n)
 
-unfoldable pub firstDifference : List Node → List Node → Verdict
+unfoldable pub firstDifference : List Line → List Line → Verdict
 firstDifference view fresh = differenceFrom 0 view fresh
 
 -- reply 10: "a line with number FFFF has a mark"
-unfoldable pub programMarked : Node → Bool
+unfoldable pub programMarked : Line → Bool
 programMarked v = eqb (v .number) programNumber && isMarked v
 
-unfoldable pub programMark : List Node → Verdict
+unfoldable pub programMark : List Line → Verdict
 programMark view = firstFrom programMarked 0 view

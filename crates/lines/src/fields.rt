@@ -2,9 +2,7 @@
 use crate::hex::pair_at;
 ghost use mathlib.Core.Path.{_≡_};
 ghost use Prim.Native.Nat.{_+_};
-ghost use Rattle.lines.specs.Hex.{pairAt};
-ghost use Rattle.lines.specs.Nodes.{nodeAt};
-ghost use Rattle.lines.specs.Entries.{entryAt};
+ghost use Rattle.lines.specs.Engine.Starts.{pairAt, nodeAt, entryAt};
 
 pub fn depth_at(s: &[u8], start: u16) -> u8
     ensures { λ r. ⌜ r ≡ nodeAt (now (s .entry)) start .depth ⌝ }

@@ -1,7 +1,8 @@
 // Upper-case hexadecimal digits, and the bytes that pairs of them are.
 ghost use mathlib.Core.Path.{_≡_};
 ghost use Prim.Native.Nat.{_<_};
-ghost use Rattle.lines.specs.Hex.{isHex, hexValue, pairAt, hexDigit};
+ghost use Rattle.lines.specs.Hex.{isHex, hexValue, hexDigit};
+ghost use Rattle.lines.specs.Engine.Starts.{pairAt};
 
 pub fn is_hex(b: u8) -> bool
     ensures { λ r. ⌜ r ≡ isHex b ⌝ }

@@ -6,9 +6,8 @@ use crate::fields::number_at;
 use crate::form::is_element;
 use crate::verdict::Verdict;
 ghost use mathlib.Core.Path.{_≡_};
-ghost use mathlib.Core.List.{map};
-ghost use Rattle.lines.specs.Nodes.{nodeAt};
-ghost use Rattle.lines.specs.Masters.{depthAfter, placed, masterBounds, unmarked};
+ghost use Rattle.lines.specs.Masters.{placed, masterBounds, unmarked};
+ghost use Rattle.lines.specs.Engine.Starts.{nodeAt, linesOf};
 
 // Whether line k may stand at its depth, at most `most`, with its number.
 fn is_placed(s: &[u8], start: u16, most: u8, k: usize) -> bool
@@ -26,7 +25,7 @@ fn is_placed(s: &[u8], start: u16, most: u8, k: usize) -> bool
 
 // The first line that breaks a bound or has not its place as number.
 pub fn bounds(s: &[u8], starts: &[u16]) -> Verdict
-    ensures { λ r. ⌜ r ≡ masterBounds (map (nodeAt (now (s .entry))) (now (starts .entry))) ⌝ }
+    ensures { λ r. ⌜ r ≡ masterBounds (linesOf (now (s .entry)) (now (starts .entry))) ⌝ }
 {
     let mut most: u8 = 0;
     let mut k: usize = 0;
@@ -46,7 +45,7 @@ pub fn bounds(s: &[u8], starts: &[u16]) -> Verdict
 
 // The first line that carries a mark.
 pub fn marks(s: &[u8], starts: &[u16]) -> Verdict
-    ensures { λ r. ⌜ r ≡ unmarked (map (nodeAt (now (s .entry))) (now (starts .entry))) ⌝ }
+    ensures { λ r. ⌜ r ≡ unmarked (linesOf (now (s .entry)) (now (starts .entry))) ⌝ }
 {
     let mut k: usize = 0;
     while k < starts.len() {

@@ -4,8 +4,8 @@ use crate::form::node_line;
 ghost use mathlib.Core.Path.{_≡_};
 ghost use Prim.Native.Nat.{_+_, _≤_};
 ghost use lib.ListN.{drop, length};
-ghost use Rattle.lines.specs.Lines.{lineLength};
-ghost use Rattle.lines.specs.Files.{formOf, limitOf, Scanned};
+ghost use Rattle.lines.specs.Files.{formOf, limitOf};
+ghost use Rattle.lines.specs.Engine.Starts.{lineLength, Scanned};
 
 pub enum File {
     Program,

@@ -1,9 +1,9 @@
 // A text in a file is known by the place of its length byte: texts of masters, views and programs are read and compared alike.
 use crate::hex::pair_at;
 ghost use mathlib.Core.Path.{_≡_};
-ghost use Prim.Native.Nat.{_≤_};
 ghost use lib.ListN.{length, getD};
-ghost use Rattle.lines.specs.Texts.{textAt, sameText, agree};
+ghost use Rattle.lines.specs.Texts.{sameText, agree};
+ghost use Rattle.lines.specs.Engine.Starts.{textAt};
 
 pub fn text_len(s: &[u8], at: u32) -> u8
     ensures { λ r. ⌜ r ≡ length (textAt (now (s .entry)) at) ⌝ }

@@ -8,9 +8,8 @@ use crate::texts::text_byte;
 use crate::texts::text_len;
 use crate::verdict::Verdict;
 ghost use mathlib.Core.Path.{_≡_};
-ghost use mathlib.Core.List.{map};
-ghost use Rattle.lines.specs.Nodes.{nodeAt};
 ghost use Rattle.lines.specs.Views.{sameHead, firstDifference, programMarked, programMark};
+ghost use Rattle.lines.specs.Engine.Starts.{nodeAt, linesOf};
 
 // Depth, kind and number.
 fn same_head(view: &[u8], v: u16, fresh: &[u8], f: u16) -> bool
@@ -27,7 +26,7 @@ fn same_head(view: &[u8], v: u16, fresh: &[u8], f: u16) -> bool
 
 // The first line at which the view differs from the fresh one; given up inside a line's bytes at the first difference.
 pub fn difference(view: &[u8], vs: &[u16], fresh: &[u8], fs: &[u16]) -> Verdict
-    ensures { λ r. ⌜ r ≡ firstDifference (map (nodeAt (now (view .entry))) (now (vs .entry))) (map (nodeAt (now (fresh .entry))) (now (fs .entry))) ⌝ }
+    ensures { λ r. ⌜ r ≡ firstDifference (linesOf (now (view .entry)) (now (vs .entry))) (linesOf (now (fresh .entry)) (now (fs .entry))) ⌝ }
 {
     let mut i: usize = 0;
     'lines: loop {
@@ -75,7 +74,7 @@ fn is_program_marked(view: &[u8], v: u16) -> bool
 
 // The first line from the program that carries a mark.
 pub fn program_mark(view: &[u8], vs: &[u16]) -> Verdict
-    ensures { λ r. ⌜ r ≡ programMark (map (nodeAt (now (view .entry))) (now (vs .entry))) ⌝ }
+    ensures { λ r. ⌜ r ≡ programMark (linesOf (now (view .entry)) (now (vs .entry))) ⌝ }
 {
     let mut i: usize = 0;
     while i < vs.len() {

@@ -8,8 +8,9 @@ ghost use Prim.Native.Nat.{_+_, _*_, _≤_};
 ghost use lib.ListN.{length};
 ghost use lib.Seq.{sets};
 ghost use Rattle.lines.specs.Hex.{encode};
-ghost use Rattle.lines.specs.Texts.{textAt};
-ghost use Rattle.lines.specs.Writing.{lineOf, headed, Written};
+ghost use Rattle.lines.specs.Writing.{lineBytes};
+ghost use Rattle.lines.specs.Engine.Starts.{textAt};
+ghost use Rattle.lines.specs.Engine.Writes.{headed, Written};
 
 // A line's fields before its text.
 pub struct Head {
@@ -43,8 +44,8 @@ fn put_text(out: &mut [u8], pos: usize, s: &[u8], at: u32)
 
 // The line of `head` and the text at `at` of `s`, from `pos` on; the place behind it.
 pub fn write_line(out: &mut [u8], pos: usize, head: Head, s: &[u8], at: u32) -> usize
-    requires { ⌜ pos + length (lineOf (headed head (textAt (now s) at))) ≤ length (now out) ⌝ }
-    ensures { λ r. ⌜ Written (now (out .entry)) (now (out .exit)) pos (lineOf (headed head (textAt (now (s .entry)) at))) r ⌝ }
+    requires { ⌜ pos + length (lineBytes (headed head (textAt (now s) at))) ≤ length (now out) ⌝ }
+    ensures { λ r. ⌜ Written (now (out .entry)) (now (out .exit)) pos (lineBytes (headed head (textAt (now (s .entry)) at))) r ⌝ }
 {
     put_byte(out, pos, head.depth);
     put_byte(out, pos + 2, head.kind);

@@ -1,34 +1,22 @@
 -- A node's kind and text, and an entry's operand, where the code reads them.
 use mathlib.Core.Path.{_≡_, sym, _∙_, ap}
 use mathlib.Core.Bool.{false}
-use mathlib.Core.List.{List, [], map}
+use mathlib.Core.List.{List, []}
 use Prim.Native.Nat.{ℕ, _+_, _-_, _%_, _≤_, _<_}
-use native.Mathlib.Omega.{arith}
 use lib.Dec.{eqb}
-use lib.ListN.{length, getD, drop, length-map, List·getD-eq-default, List·getD-map}
+use lib.ListN.{length, getD, drop}
 use borrow.Author.Tests.{lt-ltb, le-ltb}
 use Rattle.lines.specs.declared.table.Shape.{Shape}
 use Rattle.lines.specs.declared.table.Shape.the-variants.{Slot}
 use Rattle.lines.specs.declared.table.Row.{Row}
-use Rattle.lines.specs.Theorems.Lists.{getD-any}
-use Rattle.lines.specs.Hex.{pairAt}
-use Rattle.lines.specs.Texts.{textAt}
-use Rattle.lines.specs.Nodes.{isElement, nodeAt}
-use Rattle.lines.specs.Nodes.{Node as Line}
-use Rattle.lines.specs.Entries.{Entry, rows, rowOf, slotOf, textOf, operandAt, entryAt}
+use Rattle.lines.specs.Theorems.LinesAt.{line-at, no-line-at}
+use Rattle.lines.specs.Nodes.{Line, isElement, noLine}
+use Rattle.lines.specs.Entries.{Entry, rows, rowOf, slotOf, textOf}
+use Rattle.lines.specs.Engine.Starts.{pairAt, textAt, nodeAt, linesOf, operandAt, entryAt, entriesOf}
 use Rattle.values.specs.Values.{master, program, elementOf, bytesOf}
-use Rattle.values.specs.Words.{Made, originOf, nodeOf}
+use Rattle.values.specs.Engine.Words.{Made, originOf, nodeOf}
 use Rattle.runs.specs.Reading.{noEntry}
-use Rattle.runs.specs.Grounds.{noLine}
-use Rattle.runs.specs.Runs.{entriesOf, linesOf, madeBy, lookupOf}
-
--- ## A file's lines, by where they begin
-
-pub line-at : {A : Type 0} (f : ℕ → A) (starts : List ℕ) (i : ℕ) (d : A) → i < length starts → getD (map f starts) i d ≡ f (getD starts i 0)
-line-at f starts i d h = getD-any (map f starts) i d (f 0) (omega (arith, length-map starts f)) ∙ List·getD-map f starts i 0
-
-no-line-at : {A : Type 0} (f : ℕ → A) (starts : List ℕ) (i : ℕ) (d : A) → length starts ≤ i → getD (map f starts) i d ≡ d
-no-line-at f starts i d h = let l : length (map f starts) ≤ i = omega (arith, length-map starts f) in List·getD-eq-default (map f starts) d l
+use Rattle.runs.specs.Engine.Runs.{madeBy, lookupOf}
 
 -- ## Operands
 

@@ -8,25 +8,25 @@ use lib.ListN.{length, getD, take, drop, length-append, length-drop}
 use lib.Seq.{take-all}
 use Rattle.lines.specs.Writing.{putAt}
 use Rattle.lines.specs.Entries.{Entry}
-use Rattle.lines.specs.Nodes.{Node as Line}
+use Rattle.lines.specs.Nodes.{Line}
 use Rattle.values.specs.Values.{Value, Lookup}
 use Rattle.values.specs.Standings.{Standing, merged}
-use Rattle.values.specs.Words.{part, valueAt, mergedWords}
+use Rattle.values.specs.Engine.Words.{part, valueAt, mergedWords}
 use Rattle.values.specs.Theorems.Extents.{length-part, frame-less}
-use Rattle.values.specs.Theorems.WordLaws.{value-frame}
+use Rattle.values.specs.Theorems.WordLaws.{value-frame, merged-length}
 use Rattle.runs.specs.declared.stop.Stop.{Stop}
-use Rattle.runs.specs.declared.slots.Slots.{Slots as SlotWords}
+use Rattle.runs.specs.declared.slots.SlotWords.{SlotWords}
 use Rattle.runs.specs.Results.{Result, gives}
 use Rattle.runs.specs.Programs.{Transformation, beside}
 use Rattle.runs.specs.Showing.{Slots, Shown, show}
 use Rattle.runs.specs.PuttingBack.{SlotStandings, back, valueOf, putBack}
-use Rattle.runs.specs.Runs.{madeBy, lookupOf, slotsAt, PutSpace, Seen, PutBy}
-use Rattle.runs.specs.Trees.{Stands}
+use Rattle.runs.specs.Engine.Runs.{madeBy, lookupOf, slotsAt, PutSpace, Seen, PutBy}
+use Rattle.runs.specs.Engine.Trees.{Stands}
 use Rattle.runs.specs.Theorems.Inversion.{on-pair}
 use Rattle.runs.proofs.Trees.{at-beside, here, ready-beside}
 use Rattle.runs.proofs.SlotLaws.{slots-frame}
-use Rattle.runs.proofs.PutWords.{merged-length, merged-comm, holds-length, holds-frame, holds-cut, holds-merged, kept-below}
-use Rattle.runs.proofs.ShowRuns.{Got, Halted}
+use Rattle.runs.proofs.PutWords.{merged-comm, holds-length, holds-frame, holds-cut, holds-merged, kept-below}
+use Rattle.runs.specs.Theorems.RunAnswers.{Got, Halted}
 use Rattle.runs.proofs.PutRuns.{Begun, HandsBack, put-by, by-put, on-long, gives-long, got-size, not-stopped, got-seen, put-space}
 
 -- the rule, of the words' values and of a view as long as the two parts

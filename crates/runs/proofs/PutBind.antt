@@ -7,21 +7,22 @@ use native.Mathlib.Omega.{arith}
 use lib.ListN.{length, getD, replicate, length-replicate}
 use Rattle.lines.specs.Writing.{putAt}
 use Rattle.lines.specs.Entries.{Entry, slotOf}
-use Rattle.lines.specs.Nodes.{Node as Line}
+use Rattle.lines.specs.Nodes.{Line}
+use Rattle.lines.specs.Theorems.PutAt.{length-put}
 use Rattle.values.specs.Values.{Value, Lookup}
 use Rattle.values.specs.Standings.{Standing, untouched, allOver}
-use Rattle.values.specs.Words.{part, valueAt}
-use Rattle.values.specs.Theorems.Extents.{length-part, length-put}
+use Rattle.values.specs.Engine.Words.{part, valueAt}
+use Rattle.values.specs.Theorems.Extents.{length-part}
 use Rattle.values.specs.Theorems.WordLaws.{length-value, value-none}
-use Rattle.runs.specs.declared.slots.Slots.{Slots as SlotWords}
+use Rattle.runs.specs.declared.slots.SlotWords.{SlotWords}
 use Rattle.runs.specs.Programs.{Transformation, bind}
 use Rattle.runs.specs.Reading.{noEntry}
 use Rattle.runs.specs.Showing.{Slots, show}
 use Rattle.runs.specs.PuttingBack.{SlotStandings, firstSlot, restSlots, back, putBack}
-use Rattle.runs.specs.Runs.{madeBy, lookupOf, slotsAt, PutSpace, Seen, PutBy}
-use Rattle.runs.specs.SlotWords.{oneMore}
+use Rattle.runs.specs.Engine.Runs.{madeBy, lookupOf, slotsAt, PutSpace, Seen, PutBy}
+use Rattle.runs.specs.Engine.SlotWords.{oneMore}
 use Rattle.runs.specs.Theorems.Combinators.{bound}
-use Rattle.runs.specs.Trees.{Stands}
+use Rattle.runs.specs.Engine.Trees.{Stands}
 use Rattle.runs.proofs.Trees.{at-bind, here, slots-left, ready-bind}
 use Rattle.runs.proofs.SlotLaws.{more-at, more-bound}
 use Rattle.runs.proofs.PutWords.{holds-copied, kept-below}

@@ -7,22 +7,22 @@ use native.Mathlib.Numerals.{add-one}
 use native.Mathlib.Omega.{arith}
 use lib.ListN.{length, getD, take}
 use Rattle.lines.specs.Entries.{Entry}
-use Rattle.lines.specs.Nodes.{Node as Line}
+use Rattle.lines.specs.Nodes.{Line}
 use Rattle.values.specs.Values.{Value, Lookup}
 use Rattle.values.specs.Standings.{Standing}
-use Rattle.values.specs.Words.{valueAt}
+use Rattle.values.specs.Engine.Words.{valueAt}
 use Rattle.values.specs.Theorems.WordLaws.{value-frame}
 use Rattle.runs.specs.declared.stop.Stop.{Stop}
 use Rattle.runs.specs.declared.stop.Tested.the-variants as tested
-use Rattle.runs.specs.declared.slots.Slots.{Slots as SlotWords}
+use Rattle.runs.specs.declared.slots.SlotWords.{SlotWords}
 use Rattle.runs.specs.Results.{gives}
 use Rattle.runs.specs.Programs.{Transformation, choose, Test}
 use Rattle.runs.specs.Showing.{Slots, Shown, Answer, show, test}
 use Rattle.runs.specs.PuttingBack.{SlotStandings, Back, saysYes, putBack, putBackTest}
-use Rattle.runs.specs.Ends.{branchAt}
-use Rattle.runs.specs.Runs.{madeBy, lookupOf, slotsAt, yesOnly, TestedBy, PutSpace, Seen, Asked, PutBy, TestPutBy}
+use Rattle.runs.specs.Engine.Ends.{branchAt}
+use Rattle.runs.specs.Engine.Runs.{madeBy, lookupOf, slotsAt, yesOnly, TestedBy, PutSpace, Seen, Asked, PutBy, TestPutBy}
 use Rattle.runs.specs.Theorems.Combinators.{branchRun}
-use Rattle.runs.specs.Trees.{Stands, StandsTest}
+use Rattle.runs.specs.Engine.Trees.{Stands, StandsTest}
 use Rattle.runs.specs.Theorems.Inversion.{no-gives, gives-inj, on-bind}
 use Rattle.runs.proofs.Trees.{at-choose, here, ready-choose, branch-stands}
 use Rattle.runs.proofs.SlotLaws.{slots-frame}

@@ -7,27 +7,27 @@ use native.Mathlib.Omega.{arith}
 use lib.ListN.{length, take, drop, length-append}
 use lib.Seq.{drop-drop}
 use Rattle.lines.specs.Entries.{Entry}
-use Rattle.lines.specs.Nodes.{Node as Line}
+use Rattle.lines.specs.Nodes.{Line}
 use Rattle.values.specs.Values.{Value, Lookup, items}
 use Rattle.values.specs.Standings.{Standing}
-use Rattle.values.specs.Words.{valueAt, standingsAt, FirstItem}
+use Rattle.values.specs.Engine.Words.{valueAt, standingsAt, FirstItem}
 use Rattle.values.specs.Theorems.Extents.{frame-less}
 use Rattle.values.specs.Theorems.WordLaws.{length-value, value-none, value-frame}
 use Rattle.runs.specs.declared.stop.Stop.{Stop}
-use Rattle.runs.specs.declared.slots.Slots.{Slots as SlotWords}
+use Rattle.runs.specs.declared.slots.SlotWords.{SlotWords}
 use Rattle.runs.specs.Results.{Result, gives}
 use Rattle.runs.specs.Programs.{Transformation, each}
 use Rattle.runs.specs.Showing.{Slots, Shown, inTurn, show}
 use Rattle.runs.specs.PuttingBack.{SlotStandings, Back, back, valueOf, overItems, putBack}
-use Rattle.runs.specs.Runs.{madeBy, lookupOf, slotsAt, Space, PutSpace, Seen, PutBy}
-use Rattle.runs.specs.Trees.{Stands}
+use Rattle.runs.specs.Engine.Runs.{madeBy, lookupOf, slotsAt, Space, PutSpace, Seen, PutBy}
+use Rattle.runs.specs.Engine.Trees.{Stands}
 use Rattle.runs.specs.Theorems.Inversion.{on-turn}
 use Rattle.runs.specs.Theorems.Lengths.{fitted-same}
 use Rattle.runs.proofs.Trees.{at-each, here, ready-each}
 use Rattle.runs.proofs.SlotLaws.{bound-higher, slots-frame}
 use Rattle.runs.proofs.PutWords.{Holds, holds-length, holds-frame, holds-join, holds-cut}
 use Rattle.runs.proofs.PutSlots.{SlotsHold}
-use Rattle.runs.proofs.ShowRuns.{Got, Halted}
+use Rattle.runs.specs.Theorems.RunAnswers.{Got, Halted}
 use Rattle.runs.proofs.ShowEach.{first-item}
 use Rattle.runs.proofs.PutRuns.{Begun, HandsBack, put-by, by-put, on-long, gives-long, got-size, got-seen, not-stopped, put-space, show-space}
 

@@ -10,21 +10,22 @@ use lib.ListN.{length, getD, take, replicate, length-replicate}
 use borrow.Author.Tests.{eqb-true, eqb-false}
 use Rattle.lines.specs.Writing.{putAt}
 use Rattle.lines.specs.Entries.{Entry, slotOf}
-use Rattle.lines.specs.Nodes.{Node as Line}
+use Rattle.lines.specs.Nodes.{Line}
+use Rattle.lines.specs.Theorems.PutAt.{length-put}
 use Rattle.values.specs.Values.{Value, made, among}
 use Rattle.values.specs.Standings.{Standing, untouched, allOver}
-use Rattle.values.specs.Words.{part, valueAt}
-use Rattle.values.specs.Theorems.Extents.{length-part, length-put, frame-less}
+use Rattle.values.specs.Engine.Words.{part, valueAt}
+use Rattle.values.specs.Theorems.Extents.{length-part, frame-less}
 use Rattle.values.specs.Theorems.Forests.{length-lowered}
 use Rattle.values.specs.Theorems.WordLaws.{length-value}
-use Rattle.runs.specs.declared.slots.Slots.{Slots as SlotWords}
+use Rattle.runs.specs.declared.slots.SlotWords.{SlotWords}
 use Rattle.runs.specs.Programs.{Transformation, source, slot, contents}
 use Rattle.runs.specs.Reading.{noEntry}
 use Rattle.runs.specs.Showing.{Slots, Shown, oneElement, show}
 use Rattle.runs.specs.PuttingBack.{SlotStandings, back, putBack}
-use Rattle.runs.specs.Runs.{madeBy, lookupOf, slotsAt, bytesTo, mergedAt, Ready, PutSpace, Seen, PutBy}
-use Rattle.runs.specs.SlotWords.{innermost}
-use Rattle.runs.specs.Trees.{Stands}
+use Rattle.runs.specs.Engine.Runs.{madeBy, lookupOf, slotsAt, bytesTo, mergedAt, Ready, PutSpace, Seen, PutBy}
+use Rattle.runs.specs.Engine.SlotWords.{innermost}
+use Rattle.runs.specs.Engine.Trees.{Stands}
 use Rattle.runs.specs.Theorems.Inversion.{gives-inj, on-bind, on-element}
 use Rattle.runs.proofs.Trees.{at-source, at-nothing, at-text, at-tag, at-slot, at-contents, slot-bound}
 use Rattle.runs.proofs.SlotLaws.{found}

@@ -6,28 +6,27 @@ use Prim.Native.Nat.{ℕ, _^_, _+_, _*_, _≤_, _<_}
 use native.Mathlib.Omega.{arith}
 use lib.ListN.{length, getD, take}
 use Rattle.lines.specs.Entries.{Entry}
-use Rattle.lines.specs.Nodes.{Node as Line}
+use Rattle.lines.specs.Nodes.{Line}
 use Rattle.values.specs.Values.{Value}
 use Rattle.values.specs.Standings.{Standing}
-use Rattle.values.specs.Words.{part, valueAt, standingsAt, AllNamed}
+use Rattle.values.specs.Engine.Words.{part, valueAt, standingsAt, AllNamed}
 use Rattle.values.specs.Theorems.WordLaws.{length-value, value-frame}
 use Rattle.runs.specs.declared.stop.Stop.{Stop}
 use Rattle.runs.specs.declared.stop.Run.{Run}
 use Rattle.runs.specs.declared.stop.Tested.{Tested}
 use Rattle.runs.specs.declared.at.At.{At}
-use Rattle.runs.specs.declared.slots.Slots.{Slots as SlotWords}
+use Rattle.runs.specs.declared.slots.SlotWords.{SlotWords}
 use Rattle.runs.specs.Results.{Result, gives, stops}
 use Rattle.runs.specs.Programs.{Transformation, Test}
 use Rattle.runs.specs.Reading.{noEntry}
 use Rattle.runs.specs.Showing.{Shown, Answer, show}
 use Rattle.runs.specs.PuttingBack.{SlotStandings, Back, valueOf, saysYes, putBack, putBackTest}
-use Rattle.runs.specs.Runs.{madeBy, lookupOf, slotsAt, Bound, Ready, valueOnly, yesOnly, Space, ShownBy, TestedBy, marksAt, NamedTo, PutSpace, Seen, PutBy, TestPutBy}
-use Rattle.runs.specs.Trees.{Stands, StandsTest}
+use Rattle.runs.specs.Engine.Runs.{madeBy, lookupOf, slotsAt, Bound, Ready, valueOnly, yesOnly, Space, ShownBy, TestedBy, marksAt, NamedTo, PutSpace, Seen, PutBy, TestPutBy}
+use Rattle.runs.specs.Engine.Trees.{Stands, StandsTest}
 use Rattle.runs.specs.Theorems.Inversion.{no-gives, gives-inj}
 use Rattle.runs.proofs.Trees.{here}
 use Rattle.runs.proofs.SlotLaws.{bound-higher, slots-frame}
-use Rattle.runs.proofs.ShowRules.{Gave}
-use Rattle.runs.proofs.ShowRuns.{Got, Halted}
+use Rattle.runs.specs.Theorems.RunAnswers.{Got, Halted, Gave}
 use Rattle.runs.proofs.PutWords.{Holds}
 use Rattle.runs.proofs.PutSlots.{SlotsHold}
 

@@ -12,13 +12,14 @@ use lib.Seq.{getD-set-same, getD-set-other}
 use Rattle.lines.specs.Writing.{putAt}
 use Rattle.values.specs.Values.{Value, among}
 use Rattle.values.specs.Standings.{Standing, untouched, allOver, merged}
-use Rattle.values.specs.Words.{Made, part, standingsAt, AllNamed, mergedWords}
+use Rattle.values.specs.Engine.Words.{Made, part, standingsAt, AllNamed, mergedWords}
 use Rattle.values.specs.Theorems.Extents.{length-part, put-other}
-use Rattle.runs.specs.declared.slots.Slots.{Slots as SlotWords}
+use Rattle.values.specs.Theorems.WordLaws.{merged-length}
+use Rattle.runs.specs.declared.slots.SlotWords.{SlotWords}
 use Rattle.runs.specs.PuttingBack.{SlotStandings, firstSlot, restSlots, mergedInto}
-use Rattle.runs.specs.Runs.{slotsTo, slotsAt, bytesTo, Bound, marksTo, marksAt, NamedTo, mergedAt}
-use Rattle.runs.specs.SlotWords.{oneMore, innermost}
-use Rattle.runs.proofs.PutWords.{merged-length, Holds, holds-same, holds-untouched, holds-merged}
+use Rattle.runs.specs.Engine.Runs.{slotsTo, slotsAt, bytesTo, Bound, marksTo, marksAt, NamedTo, mergedAt}
+use Rattle.runs.specs.Engine.SlotWords.{oneMore, innermost}
+use Rattle.runs.proofs.PutWords.{Holds, holds-same, holds-untouched, holds-merged}
 
 pub record SlotsHold (texts : ℕ → List ℕ) (marks : List ℕ) (slots : SlotWords) (us : SlotStandings) : Type 0 where
   pub says : marksAt texts marks slots ≡ us

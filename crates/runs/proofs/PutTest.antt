@@ -9,25 +9,26 @@ use native.Mathlib.Omega.{arith}
 use lib.ListN.{length, getD, take, replicate, length-replicate}
 use Rattle.lines.specs.Writing.{putAt}
 use Rattle.lines.specs.Entries.{Entry}
-use Rattle.lines.specs.Nodes.{Node as Line}
+use Rattle.lines.specs.Nodes.{Line}
+use Rattle.lines.specs.Theorems.PutAt.{length-put}
 use Rattle.values.specs.Values.{Value, Lookup}
 use Rattle.values.specs.Standings.{Standing, locked, allOver, merged}
-use Rattle.values.specs.Words.{part, valueAt, mergedWords}
-use Rattle.values.specs.Theorems.Extents.{length-part, length-put, frame-less}
-use Rattle.values.specs.Theorems.WordLaws.{length-value, value-none}
+use Rattle.values.specs.Engine.Words.{part, valueAt, mergedWords}
+use Rattle.values.specs.Theorems.Extents.{length-part, frame-less}
+use Rattle.values.specs.Theorems.WordLaws.{length-value, value-none, merged-length}
 use Rattle.runs.specs.declared.stop.Stop.{Stop}
-use Rattle.runs.specs.declared.slots.Slots.{Slots as SlotWords}
+use Rattle.runs.specs.declared.slots.SlotWords.{SlotWords}
 use Rattle.runs.specs.Results.{Result, gives, stops}
 use Rattle.runs.specs.Programs.{equals, Transformation, Test, compares, tagged, isElement}
 use Rattle.runs.specs.Reading.{noEntry}
 use Rattle.runs.specs.Showing.{Slots, Answer, oneText, show, test}
 use Rattle.runs.specs.PuttingBack.{SlotStandings, back, putBack, putBackTest}
-use Rattle.runs.specs.Runs.{madeBy, lookupOf, slotsAt, yesOnly, ReadyTest, PutSpace, Seen, Asked, PutBy, TestPutBy}
-use Rattle.runs.specs.Trees.{Stands, StandsTest}
+use Rattle.runs.specs.Engine.Runs.{madeBy, lookupOf, slotsAt, yesOnly, ReadyTest, PutSpace, Seen, Asked, PutBy, TestPutBy}
+use Rattle.runs.specs.Engine.Trees.{Stands, StandsTest}
 use Rattle.runs.specs.Theorems.Inversion.{no-gives, on-bind, on-text}
 use Rattle.runs.proofs.Trees.{at-equals, here, here-test, ready-equals}
 use Rattle.runs.proofs.SlotLaws.{slots-frame}
-use Rattle.runs.proofs.PutWords.{Holds, merged-length, holds-frame, holds-other, holds-locked, holds-merged, kept-below}
+use Rattle.runs.proofs.PutWords.{Holds, holds-frame, holds-other, holds-locked, holds-merged, kept-below}
 use Rattle.runs.proofs.PutRuns.{PutFacts, HandsBack, put-by, by-test, GivesLong, gives-long, put-space}
 
 pub on-answer : {C : Type 0} (r : Result Stop Answer) (b : Bool) → yesOnly r ≡ gives b → ((p : Answer) → r ≡ gives p → C) → C

@@ -7,25 +7,25 @@ use native.Mathlib.Omega.{arith}
 use lib.ListN.{length, getD, take}
 use Rattle.lines.specs.Writing.{putAt}
 use Rattle.lines.specs.Entries.{Entry}
-use Rattle.lines.specs.Nodes.{Node as Line}
+use Rattle.lines.specs.Nodes.{Line}
 use Rattle.values.specs.Values.{Value, Lookup}
 use Rattle.values.specs.Standings.{Standing}
-use Rattle.values.specs.Words.{part, valueAt}
+use Rattle.values.specs.Engine.Words.{part, valueAt}
 use Rattle.values.specs.Theorems.Extents.{length-part, frame-less}
 use Rattle.values.specs.Theorems.WordLaws.{value-frame}
 use Rattle.runs.specs.declared.stop.Stop.{Stop}
-use Rattle.runs.specs.declared.slots.Slots.{Slots as SlotWords}
+use Rattle.runs.specs.declared.slots.SlotWords.{SlotWords}
 use Rattle.runs.specs.Results.{gives}
 use Rattle.runs.specs.Programs.{Transformation, andThen}
 use Rattle.runs.specs.Showing.{Slots, Shown, show}
 use Rattle.runs.specs.PuttingBack.{SlotStandings, valueOf, putBack}
-use Rattle.runs.specs.Runs.{madeBy, lookupOf, slotsAt, PutSpace, Seen, PutBy}
-use Rattle.runs.specs.Trees.{Stands}
+use Rattle.runs.specs.Engine.Runs.{madeBy, lookupOf, slotsAt, PutSpace, Seen, PutBy}
+use Rattle.runs.specs.Engine.Trees.{Stands}
 use Rattle.runs.specs.Theorems.Inversion.{gives-inj, on-bind}
 use Rattle.runs.proofs.Trees.{at-then, here, ready-then}
 use Rattle.runs.proofs.SlotLaws.{slots-frame}
 use Rattle.runs.proofs.PutWords.{holds-frame, holds-copied, kept-below}
-use Rattle.runs.proofs.ShowRuns.{Got, Halted}
+use Rattle.runs.specs.Theorems.RunAnswers.{Got, Halted}
 use Rattle.runs.proofs.PutRuns.{Begun, HandsBack, put-by, by-put, GivesLong, on-long, gives-long, got-value, not-stopped, got-seen, put-space}
 
 -- the rule, of the words' values

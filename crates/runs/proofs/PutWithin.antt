@@ -8,20 +8,21 @@ use native.Mathlib.Omega.{arith}
 use lib.ListN.{length, take, drop, length-map}
 use Rattle.lines.specs.Writing.{putAt}
 use Rattle.lines.specs.Entries.{Entry}
-use Rattle.lines.specs.Nodes.{Node as Line}
+use Rattle.lines.specs.Nodes.{Line}
+use Rattle.lines.specs.Theorems.PutAt.{length-put, put-part}
 use Rattle.values.specs.Values.{Value, Lookup, raised, lowered}
 use Rattle.values.specs.Standings.{Standing}
-use Rattle.values.specs.Words.{part, nodeOf, valueAt, loweredWord}
-use Rattle.values.specs.Theorems.Extents.{length-part, length-put, frame-less, put-part}
+use Rattle.values.specs.Engine.Words.{part, nodeOf, valueAt, loweredWord}
+use Rattle.values.specs.Theorems.Extents.{length-part, frame-less}
 use Rattle.values.specs.Theorems.Forests.{length-raised}
 use Rattle.values.specs.Theorems.WordLaws.{length-value, value-cons, lowered-words}
-use Rattle.runs.specs.declared.slots.Slots.{Slots as SlotWords}
+use Rattle.runs.specs.declared.slots.SlotWords.{SlotWords}
 use Rattle.runs.specs.Results.{gives}
 use Rattle.runs.specs.Programs.{Transformation, within}
 use Rattle.runs.specs.Showing.{Slots, oneElement, show}
 use Rattle.runs.specs.PuttingBack.{SlotStandings, back, inside, putBack}
-use Rattle.runs.specs.Runs.{madeBy, lookupOf, slotsAt, PutSpace, Seen, PutBy}
-use Rattle.runs.specs.Trees.{Stands}
+use Rattle.runs.specs.Engine.Runs.{madeBy, lookupOf, slotsAt, PutSpace, Seen, PutBy}
+use Rattle.runs.specs.Engine.Trees.{Stands}
 use Rattle.runs.specs.Theorems.Inversion.{on-bind, on-element, on-bounded}
 use Rattle.runs.proofs.Trees.{at-within, here, ready-within}
 use Rattle.runs.proofs.SlotLaws.{slots-frame}
@@ -98,7 +99,8 @@ module _ {entries : List Entry} {lines : List Line} {ends w marks : List ℕ} {s
         let s = within-some in
         let two = within-levels in
         let more : len ≡ (len - 1) + 1 = omega arith in
-        ap (map (nodeOf (madeBy entries))) (ap (λ (l : List ℕ). part l top (len - 1)) c₁ ∙ (ap (part (putAt w top inner) top) (sym contents-long) ∙ put-part w top inner fits₁))
+        let put = put-part w top inner (omega (arith, fits₁)) in
+        ap (map (nodeOf (madeBy entries))) (ap (λ (l : List ℕ). part l top (len - 1)) c₁ ∙ (ap (part (putAt w top inner) top) (sym contents-long) ∙ put))
         ∙ (lowered-words (madeBy entries) (part w (start + 1) (len - 1))
         ∙ sym (ap (λ (n : ℕ). inside (valueAt (madeBy entries) w start n)) more ∙ ap inside (value-cons (madeBy entries) w start (len - 1) (omega arith))))
 

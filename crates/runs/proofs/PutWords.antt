@@ -7,12 +7,13 @@ use native.Mathlib.Omega.{arith}
 use lib.ListN.{length, take, drop, replicate, length-replicate}
 use lib.Seq.{take-at, drop-at}
 use Rattle.lines.specs.Writing.{putAt}
+use Rattle.lines.specs.Theorems.PutAt.{put-frame, put-part}
 use Rattle.values.specs.Values.{Value}
 use Rattle.values.specs.Standings.{Standing, untouched, locked, allOver, merged}
-use Rattle.values.specs.Words.{part, standingOf, standingsAt, Named, AllNamed, mergedWords}
-use Rattle.values.specs.Theorems.Extents.{length-part, part-join, frame-part, put-frame, put-part, put-other}
+use Rattle.values.specs.Engine.Words.{part, standingOf, standingsAt, Named, AllNamed, mergedWords}
+use Rattle.values.specs.Theorems.Extents.{length-part, part-join, frame-part, put-other}
 use Rattle.values.specs.Theorems.MergeLaws.{merge-comm}
-use Rattle.values.specs.Theorems.WordLaws.{standings-join, length-standings, merged-words}
+use Rattle.values.specs.Theorems.WordLaws.{standings-join, length-standings, merged-words, merged-length}
 
 -- ## Words that name their texts
 
@@ -35,12 +36,6 @@ module _ (texts : ℕ → List ℕ) where
   unfolding allOver
   filled-over x [] = refl
   filled-over x (y ∷ v) = ap (λ (ss : List Standing). standingOf texts x ∷ ss) (filled-over x v)
-
-pub merged-length : (k l : List ℕ) → length k ≡ length l → length (mergedWords k l) ≡ length k
-unfolding mergedWords
-merged-length [] l e = refl
-merged-length (a ∷ k) [] e = absurd (omega arith)
-merged-length (a ∷ k) (b ∷ l) e = ap suc (merged-length k l (omega arith))
 
 pub merged-comm : (ss ts : List Standing) → merged ss ts ≡ merged ts ss
 unfolding merged
@@ -136,4 +131,4 @@ module _ {texts : ℕ → List ℕ} where
   holds-other {w} {w′} {to} new {start} {len} p fits side h = holds-same (ap (λ (l : List ℕ). part l start len) p ∙ put-other w to new fits start len side) h
 
 pub kept-below : (w : List ℕ) {w′ : List ℕ} (to : ℕ) (new : List ℕ) → w′ ≡ putAt w to new → to + length new ≤ length w → take to w′ ≡ take to w
-kept-below w {w′} to new p fits = ap (take to) p ∙ put-frame w to new fits
+kept-below w {w′} to new p fits = ap (take to) p ∙ put-frame w to new (omega arith)

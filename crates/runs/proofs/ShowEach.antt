@@ -5,14 +5,14 @@ use Prim.Native.Nat.{ℕ, _+_, _-_, _≤_, _<_}
 use native.Mathlib.Omega.{arith}
 use lib.ListN.{length, getD, take, drop}
 use lib.Seq.{take-at, drop-at}
-use Rattle.lines.specs.Nodes.{Node as Line}
+use Rattle.lines.specs.Nodes.{Line}
 use Rattle.lines.specs.Entries.{Entry}
 use Rattle.values.specs.Values.{Value, under, onward, items}
-use Rattle.values.specs.Words.{Made, nodeOf, valueAt, FirstItem}
+use Rattle.values.specs.Engine.Words.{Made, nodeOf, valueAt, FirstItem}
 use Rattle.values.specs.Theorems.Extents.{frame-less}
 use Rattle.values.specs.Theorems.WordLaws.{length-value, value-none, value-join, value-frame}
 use Rattle.values.specs.Theorems.Items.{items-cons, under-onward}
-use Rattle.runs.specs.declared.slots.Slots.{Slots as SlotWords}
+use Rattle.runs.specs.declared.slots.SlotWords.{SlotWords}
 use Rattle.runs.specs.declared.stop.Stop.{Stop}
 use Rattle.runs.specs.declared.stop.Stop.the-variants.{Size}
 use Rattle.runs.specs.declared.stop.Run.the-variants as ran
@@ -20,13 +20,14 @@ use Rattle.runs.specs.Results.{Result, gives}
 use Rattle.runs.specs.Programs.{Transformation}
 use Rattle.runs.specs.Reading.{noEntry}
 use Rattle.runs.specs.Showing.{inTurn, show}
-use Rattle.runs.specs.Trees.{Stands}
-use Rattle.runs.specs.Runs.{madeBy, lookupOf, slotsAt, Bound, valueOnly, ShownBy}
+use Rattle.runs.specs.Engine.Trees.{Stands}
+use Rattle.runs.specs.Engine.Runs.{madeBy, lookupOf, slotsAt, Bound, valueOnly, ShownBy}
 use Rattle.runs.proofs.SlotLaws.{slots-frame}
 use Rattle.runs.proofs.Trees.{at-each}
 use Rattle.runs.proofs.ShowSources.{first-rest}
 use Rattle.runs.proofs.ShowRules.{behind, behind-nothing, behind-behind, turn-ends, turn-stops, turn-large, turn-goes-on}
-use Rattle.runs.proofs.ShowRuns.{Got, Halted, one-value}
+use Rattle.runs.specs.Theorems.RunAnswers.{Got, Halted}
+use Rattle.runs.proofs.ShowRuns.{one-value}
 
 -- ## The first item of an extent, and the others
 

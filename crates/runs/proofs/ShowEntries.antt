@@ -7,13 +7,14 @@ use native.Mathlib.Omega.{arith}
 use native.Mathlib.Decide.{decLt}
 use lib.ListN.{length, getD, length-map}
 use borrow.Author.Tests.{le-ltb}
-use Rattle.lines.specs.Nodes.{Node as Line}
-use Rattle.lines.specs.Entries.{Entry, entryAt, slotOf, textOf}
+use Rattle.lines.specs.Nodes.{Line}
+use Rattle.lines.specs.Entries.{Entry, slotOf, textOf}
+use Rattle.lines.specs.Engine.Starts.{entryAt, entriesOf}
 use Rattle.values.specs.Values.{program}
-use Rattle.values.specs.Words.{Made, originOf, nodeOf, valueAt}
+use Rattle.values.specs.Engine.Words.{Made, originOf, nodeOf, valueAt}
 use Rattle.values.specs.Theorems.WordLaws.{value-none}
 use Rattle.runs.specs.declared.at.At.{At}
-use Rattle.runs.specs.declared.slots.Slots.{Slots as SlotWords}
+use Rattle.runs.specs.declared.slots.SlotWords.{SlotWords}
 use Rattle.runs.specs.declared.stop.Run.{Run}
 use Rattle.runs.specs.declared.stop.Run.the-variants as ran
 use Rattle.runs.specs.declared.stop.Tested.{Tested}
@@ -21,8 +22,8 @@ use Rattle.runs.specs.Results.{gives}
 use Rattle.runs.specs.Programs.{contents, tagged, isElement}
 use Rattle.runs.specs.Reading.{noEntry}
 use Rattle.runs.specs.Showing.{valueIn, show, test}
-use Rattle.runs.specs.Runs.{entriesOf, madeBy, lookupOf, slotsAt, Space, valueOnly, yesOnly, saidOf, ShownBy, TestedBy}
-use Rattle.runs.specs.Leaves.{Leaves}
+use Rattle.runs.specs.Engine.Runs.{madeBy, lookupOf, slotsAt, Space, valueOnly, yesOnly, saidOf, ShownBy, TestedBy}
+use Rattle.runs.specs.Engine.Leaves.{Leaves}
 use Rattle.runs.proofs.Trees.{Here, at-source, at-nothing, at-text, at-tag, at-slot, at-contents, at-tagged, at-element}
 use Rattle.runs.proofs.ShowRuns.{leaf}
 

@@ -8,17 +8,18 @@ use native.Mathlib.Omega.{arith}
 use lib.ListN.{length, take, set, length-map}
 use lib.Seq.{set-split}
 use Rattle.lines.specs.Writing.{putAt}
+use Rattle.lines.specs.Theorems.PutAt.{put-frame, put-part}
 use Rattle.values.specs.Values.{Value, Lookup, lowered}
-use Rattle.values.specs.Words.{part, Made, nodeOf, valueAt, loweredWord}
-use Rattle.values.specs.Theorems.Extents.{length-part, put-frame, put-part}
+use Rattle.values.specs.Engine.Words.{part, Made, nodeOf, valueAt, loweredWord}
+use Rattle.values.specs.Theorems.Extents.{length-part}
 use Rattle.values.specs.Theorems.WordLaws.{lowered-words}
 use Rattle.runs.specs.declared.stop.Stop.the-variants.{Source}
 use Rattle.runs.specs.declared.stop.Run.the-variants as ran
 use Rattle.runs.specs.Results.{gives}
 use Rattle.runs.specs.Programs.{contents}
 use Rattle.runs.specs.Showing.{show}
-use Rattle.runs.specs.Runs.{valueOnly}
-use Rattle.runs.specs.Leaves.{isOneElement, Leaves}
+use Rattle.runs.specs.Engine.Runs.{valueOnly}
+use Rattle.runs.specs.Engine.Leaves.{isOneElement, Leaves}
 use Rattle.runs.proofs.ShowSources.{no-element-one, element-words, words-element}
 
 -- words put at top are a value there

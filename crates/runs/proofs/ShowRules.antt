@@ -13,23 +13,9 @@ use Rattle.runs.specs.declared.stop.Stop.the-variants.{Size}
 use Rattle.runs.specs.Results.{Result, gives, stops, _>>=_}
 use Rattle.runs.specs.Programs.{equals}
 use Rattle.runs.specs.Showing.{Slots, Single, Shown, Answer, shown, oneElement, oneText, bounded, inTurn, verdict}
-use Rattle.runs.specs.Runs.{valueOnly, yesOnly}
+use Rattle.runs.specs.Engine.Runs.{valueOnly, yesOnly}
+use Rattle.runs.specs.Theorems.RunAnswers.{Gave}
 use Rattle.runs.specs.Theorems.Combinators.{Run, Asking, withinRun, thenRun, chooseRun, branchRun, comparesAsk}
-
--- ## What a run gave
-
-pub record Gave (r : Result Stop Shown) (v : Value) : Type 0 where
-  pub all : Shown
-  pub is : r ≡ gives all
-  pub value : all .value ≡ v
-
-pub gave : (r : Result Stop Shown) (v : Value) → gives v ≡ valueOnly r → Gave r v
-gave (gives a) v h = record { all = a; is = refl; value = cc }
-gave (stops s) v h = let z : _≡_ {A = ℕ} 0 1 = cc in absurd (omega arith)
-
-pub stopped : (r : Result Stop Shown) (s : Stop) → stops s ≡ valueOnly r → r ≡ stops s
-stopped (gives a) s h = let z : _≡_ {A = ℕ} 0 1 = cc in absurd (omega arith)
-stopped (stops t) s h = cc
 
 -- ## 07
 

@@ -7,69 +7,37 @@ use native.Mathlib.Nat.{zero-add}
 use native.Mathlib.Omega.{arith}
 use lib.ListN.{length, getD, take}
 use lib.Seq.{getD-take}
-use Rattle.lines.specs.Nodes.{Node as Line}
+use Rattle.lines.specs.Nodes.{Line}
 use Rattle.lines.specs.Entries.{Entry, slotOf}
 use Rattle.lines.specs.Writing.{putAt}
 use Rattle.values.specs.Values.{Value}
-use Rattle.values.specs.Words.{part, valueAt}
+use Rattle.values.specs.Engine.Words.{part, valueAt}
 use Rattle.values.specs.Theorems.Extents.{frame-less}
 use Rattle.values.specs.Theorems.WordLaws.{length-value, value-none, value-join, value-frame}
-use Rattle.runs.specs.declared.slots.Slots.{Slots as SlotWords}
-use Rattle.values.specs.declared.extents.Extent.{Extent}
+use Rattle.runs.specs.declared.slots.SlotWords.{SlotWords}
 use Rattle.runs.specs.declared.stop.Stop.{Stop}
 use Rattle.runs.specs.declared.stop.Stop.the-variants.{Size}
 use Rattle.runs.specs.declared.stop.Run.{Run}
 use Rattle.runs.specs.declared.stop.Run.the-variants as ran
 use Rattle.runs.specs.declared.stop.Tested.{Tested}
 use Rattle.runs.specs.declared.stop.Tested.the-variants as tested
-use Rattle.runs.specs.Results.{Result, gives, stops}
+use Rattle.runs.specs.Results.{Result, gives}
 use Rattle.runs.specs.Programs.{Transformation, choose, Test}
 use Rattle.runs.specs.Reading.{noEntry}
 use Rattle.runs.specs.Showing.{Slots, Shown, inTurn, show, test}
-use Rattle.runs.specs.Trees.{Stands, StandsTest}
-use Rattle.runs.specs.Ends.{branchAt}
-use Rattle.runs.specs.Runs.{madeBy, lookupOf, slotsAt, Ended, Bound, saidOf, valueOnly, ShownBy, TestedBy}
+use Rattle.runs.specs.Engine.Trees.{Stands, StandsTest}
+use Rattle.runs.specs.Engine.Ends.{branchAt}
+use Rattle.runs.specs.Engine.Runs.{madeBy, lookupOf, slotsAt, Ended, Bound, saidOf, valueOnly, ShownBy, TestedBy}
+use Rattle.runs.specs.Theorems.RunAnswers.{Got, Halted}
 use Rattle.runs.specs.Theorems.Combinators.{branchRun}
 use Rattle.runs.specs.Theorems.Combinators.{bound as bound-as}
-use Rattle.runs.specs.SlotWords.{oneMore}
-use Rattle.runs.specs.Leaves.{Leaves}
+use Rattle.runs.specs.Engine.SlotWords.{oneMore}
+use Rattle.runs.specs.Engine.Leaves.{Leaves}
 use Rattle.runs.proofs.SlotLaws.{slots-frame, more-at}
 use Rattle.runs.proofs.Trees.{at-then, at-beside, at-choose, at-bind, branch-stands}
 use Rattle.runs.proofs.ShowLeaves.{copied}
-use Rattle.runs.proofs.ShowRules.{Gave, gave, stopped, then-first-stops, then-stops, then-gives, behind}
+use Rattle.runs.proofs.ShowRules.{then-first-stops, then-stops, then-gives, behind}
 use Rattle.runs.proofs.ShowRules.{turn-ends, turn-stops, turn-large, turn-goes-on, choose-stops, choose-says}
-
--- ## What is known where a run gave a value, and where it stopped
-
-module _ (entries : List Entry) (lines : List Line) where
-  pub record Got (w : List ℕ) (slots : SlotWords) (entry start len top : ℕ) (w′ : List ℕ) (n : ℕ) : Type 0 where
-    pub frame : take top w′ ≡ take top w
-    pub small : n ≤ 128
-    pub kept : length w′ ≡ length w
-    pub is : (X : Transformation) (q : ℕ) → Stands entries X entry q
-        → Gave (show (lookupOf lines) X (slotsAt (madeBy entries) w slots) (valueAt (madeBy entries) w start len)) (valueAt (madeBy entries) w′ top n)
-
-  pub record Halted (w : List ℕ) (slots : SlotWords) (entry start len top : ℕ) (w′ : List ℕ) (s : Stop) : Type 0 where
-    pub frame : take top w′ ≡ take top w
-    pub is : (X : Transformation) (q : ℕ) → Stands entries X entry q
-        → show (lookupOf lines) X (slotsAt (madeBy entries) w slots) (valueAt (madeBy entries) w start len) ≡ stops s
-
-module _ {entries : List Entry} {lines : List Line} {w : List ℕ} {slots : SlotWords} {entry start len top : ℕ}
-    {w′ : List ℕ} {r : Run} (x : ShownBy entries lines w slots entry start len top w′ r) where
-  pub got : length w′ ≡ length w → (v : Extent) → r ≡ ran.Value v → Got entries lines w slots entry start len top w′ (v .len)
-  got k v e =
-      let y : ShownBy entries lines w slots entry start len top w′ (ran.Value v) = rw e at x in
-      record {
-        frame = y .frame;
-        small = y .place .1;
-        kept = k;
-        is = λ X q s. gave _ _ (ap (λ (k : ℕ). gives (valueAt (madeBy entries) w′ k (v .len))) (sym (y .place .0)) ∙ y .meets X q s);
-      }
-
-  pub halted : (s : Stop) → r ≡ ran.Stop s → Halted entries lines w slots entry start len top w′ s
-  halted s e =
-      let y : ShownBy entries lines w slots entry start len top w′ (ran.Stop s) = rw e at x in
-      record { frame = y .frame; is = λ X q t. stopped _ s (y .meets X q t) }
 
 -- a function without runs below it left what the rules show
 pub leaf : {entries : List Entry} {lines : List Line} {w : List ℕ} {slots : SlotWords} {entry start len top : ℕ} {w′ : List ℕ} {r : Run} {answer : Result Stop Value}

@@ -7,13 +7,13 @@ use native.Mathlib.Omega.{arith}
 use lib.ListN.{length, getD}
 use borrow.Author.Tests.{not-true, not-false}
 use Rattle.values.specs.Values.{Node, Value, Lookup, elementOf, noTop}
-use Rattle.values.specs.Words.{Made, nodeOf, valueAt}
+use Rattle.values.specs.Engine.Words.{Made, nodeOf, valueAt}
 use Rattle.values.specs.Theorems.WordLaws.{length-value, value-none, value-cons}
 use Rattle.lines.specs.Theorems.Bools.{and-left, and-right}
 use Rattle.runs.specs.declared.stop.Stop.the-variants.{Source}
 use Rattle.runs.specs.Results.{gives, stops}
 use Rattle.runs.specs.Showing.{single, oneTop, oneElement, oneText}
-use Rattle.runs.specs.Leaves.{isOneTop, isOneElement, isOneText}
+use Rattle.runs.specs.Engine.Leaves.{isOneTop, isOneElement, isOneText}
 
 -- what a test `!found` says
 pub found-yes : {r t : Bool} → r ≡ t → not r ≡ false → t ≡ true

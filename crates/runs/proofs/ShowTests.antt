@@ -6,12 +6,12 @@ use Prim.Native.Nat.{ℕ, _+_, _≤_}
 use native.Mathlib.Omega.{arith}
 use lib.ListN.{length, getD}
 use Rattle.lines.specs.Texts.{agree}
-use Rattle.lines.specs.Nodes.{Node as Line}
+use Rattle.lines.specs.Nodes.{Line}
 use Rattle.lines.specs.Entries.{Entry}
 use Rattle.values.specs.Values.{bytesOf}
-use Rattle.values.specs.Words.{nodeOf, valueAt}
+use Rattle.values.specs.Engine.Words.{nodeOf, valueAt}
 use Rattle.values.specs.Theorems.WordLaws.{value-none}
-use Rattle.runs.specs.declared.slots.Slots.{Slots as SlotWords}
+use Rattle.runs.specs.declared.slots.SlotWords.{SlotWords}
 use Rattle.runs.specs.declared.stop.Stop.{Stop}
 use Rattle.runs.specs.declared.stop.Stop.the-variants.{Source}
 use Rattle.runs.specs.declared.stop.Tested.the-variants as tested
@@ -19,13 +19,14 @@ use Rattle.runs.specs.Results.{gives}
 use Rattle.runs.specs.Programs.{Transformation}
 use Rattle.runs.specs.Reading.{noEntry}
 use Rattle.runs.specs.Showing.{oneText, show, test}
-use Rattle.runs.specs.Trees.{Stands}
-use Rattle.runs.specs.Runs.{madeBy, lookupOf, slotsAt, TestedBy}
-use Rattle.runs.specs.Leaves.{isOneText}
+use Rattle.runs.specs.Engine.Trees.{Stands}
+use Rattle.runs.specs.Engine.Runs.{madeBy, lookupOf, slotsAt, TestedBy}
+use Rattle.runs.specs.Engine.Leaves.{isOneText}
 use Rattle.runs.proofs.Trees.{at-equals}
 use Rattle.runs.proofs.ShowSources.{no-text-one, text-words, words-text}
-use Rattle.runs.proofs.ShowRules.{Gave, equals-no-source, equals-stops, equals-no-other, equals-says}
-use Rattle.runs.proofs.ShowRuns.{frame-word, Got, Halted}
+use Rattle.runs.proofs.ShowRules.{equals-no-source, equals-stops, equals-no-other, equals-says}
+use Rattle.runs.specs.Theorems.RunAnswers.{Got, Halted, Gave}
+use Rattle.runs.proofs.ShowRuns.{frame-word}
 
 module _ (entries : List Entry) (lines : List Line) (w : List ℕ) (slots : SlotWords) (entry start len top : ℕ) (op : (getD entries entry noEntry) .operation ≡ 0x11) where
   pub equals-none : isOneText (lookupOf lines) (valueAt (madeBy entries) w start len) ≡ false → TestedBy entries lines w slots entry start len top w (tested.Stop (Source entry))

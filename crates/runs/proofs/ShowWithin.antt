@@ -9,15 +9,16 @@ use lib.ListN.{length, getD, take, drop, set, length-map, length-set}
 use lib.Seq.{getD-set-same, drop-set-lt, take-set-le}
 use borrow.Author.Tests.{ltb-false, leb-true, le-leb, lt-leb}
 use Rattle.lines.specs.Theorems.Bools.{and-left, and-right}
-use Rattle.lines.specs.Nodes.{Node as Line}
+use Rattle.lines.specs.Nodes.{Line}
 use Rattle.lines.specs.Entries.{Entry}
 use Rattle.lines.specs.Writing.{putAt}
+use Rattle.lines.specs.Theorems.PutAt.{length-put, put-frame}
 use Rattle.values.specs.Values.{Node, Value, lowered, raised, shallow, withinBounds, mostDepth}
-use Rattle.values.specs.Words.{part, Made, nodeOf, valueAt, loweredWord, raisedWord}
-use Rattle.values.specs.Theorems.Extents.{length-part, frame-less, length-put, put-frame}
+use Rattle.values.specs.Engine.Words.{part, Made, nodeOf, valueAt, loweredWord, raisedWord}
+use Rattle.values.specs.Theorems.Extents.{length-part, frame-less}
 use Rattle.values.specs.Theorems.WordLaws.{length-value, value-cons, raised-words}
 use Rattle.values.specs.Theorems.Forests.{length-raised}
-use Rattle.runs.specs.declared.slots.Slots.{Slots as SlotWords}
+use Rattle.runs.specs.declared.slots.SlotWords.{SlotWords}
 use Rattle.runs.specs.declared.stop.Stop.{Stop}
 use Rattle.runs.specs.declared.stop.Stop.the-variants.{Source, Size}
 use Rattle.runs.specs.declared.stop.Run.the-variants as ran
@@ -25,16 +26,17 @@ use Rattle.runs.specs.Results.{gives}
 use Rattle.runs.specs.Programs.{Transformation}
 use Rattle.runs.specs.Reading.{noEntry}
 use Rattle.runs.specs.Showing.{Single, single, oneElement, show}
-use Rattle.runs.specs.Trees.{Stands}
+use Rattle.runs.specs.Engine.Trees.{Stands}
 use Rattle.runs.specs.Theorems.Inversion.{gives-inj}
-use Rattle.runs.specs.Runs.{madeBy, lookupOf, slotsAt, Bound, ShownBy}
-use Rattle.runs.specs.Leaves.{isOneElement, Leaves}
+use Rattle.runs.specs.Engine.Runs.{madeBy, lookupOf, slotsAt, Bound, ShownBy}
+use Rattle.runs.specs.Engine.Leaves.{isOneElement, Leaves}
 use Rattle.runs.proofs.SlotLaws.{slots-frame}
 use Rattle.runs.proofs.Trees.{at-within}
 use Rattle.runs.proofs.ShowSources.{no-element-one, element-words, words-element}
 use Rattle.runs.proofs.ShowLeaves.{put-value, lowered-put}
-use Rattle.runs.proofs.ShowRules.{Gave, within-stops, within-large, within-gives}
-use Rattle.runs.proofs.ShowRuns.{frame-word, Got, Halted}
+use Rattle.runs.proofs.ShowRules.{within-stops, within-large, within-gives}
+use Rattle.runs.specs.Theorems.RunAnswers.{Got, Halted, Gave}
+use Rattle.runs.proofs.ShowRuns.{frame-word}
 
 -- ## Raised words, also where a depth has no room to be raised: it is over the bound then, and so is the word
 

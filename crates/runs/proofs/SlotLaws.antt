@@ -11,13 +11,13 @@ use lib.ListN.{length, getD, take, set, length-set}
 use lib.Seq.{getD-set-same, getD-set-other}
 use borrow.Author.Tests.{leb-true, eq-eqb, ne-eqb}
 use Rattle.values.specs.Values.{Value, among}
-use Rattle.values.specs.Words.{Made, valueAt}
+use Rattle.values.specs.Engine.Words.{Made, valueAt}
 use Rattle.values.specs.Theorems.WordLaws.{value-frame}
-use Rattle.runs.specs.declared.slots.Slots.{Slots as SlotWords}
+use Rattle.runs.specs.declared.slots.SlotWords.{SlotWords}
 use Rattle.runs.specs.Reading.{Room, insideBind}
 use Rattle.runs.specs.Showing.{Slots, valueIn}
-use Rattle.runs.specs.Runs.{slotsTo, slotsAt, bytesTo, Bound, Inside}
-use Rattle.runs.specs.SlotWords.{oneMore, innermost}
+use Rattle.runs.specs.Engine.Runs.{slotsTo, slotsAt, bytesTo, Bound, Inside}
+use Rattle.runs.specs.Engine.SlotWords.{oneMore, innermost}
 use Rattle.runs.specs.Theorems.Combinators.{bound}
 
 -- ## Below top

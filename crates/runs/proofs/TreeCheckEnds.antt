@@ -13,8 +13,8 @@ use Rattle.runs.specs.declared.tree.Checked.{Checked}
 use Rattle.runs.specs.declared.tree.Checked.the-variants.{Next, Fault}
 use Rattle.runs.specs.Results.{Result, gives, stops, _>>=_}
 use Rattle.runs.specs.Reading.{Room}
-use Rattle.runs.specs.Checking.{Sized, EndedAt, EndedFrom, EndedUpTo, CheckedFrom}
-use Rattle.runs.specs.Ends.{endOf, endBelow, endAt}
+use Rattle.runs.specs.Engine.Checking.{Sized, EndedAt, EndedFrom, EndedUpTo, CheckedFrom}
+use Rattle.runs.specs.Engine.Ends.{endOf, endBelow, endAt}
 use Rattle.runs.specs.Theorems.OneEnd.{one-end-of, one-test-end}
 
 module _ {E : List Entry} where

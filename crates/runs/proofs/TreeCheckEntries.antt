@@ -8,14 +8,13 @@ use native.Mathlib.Numerals.{add-one}
 use lib.ListN.{length, getD, List·getD-eq-default}
 use Rattle.lines.specs.declared.table.Shape.the-variants.{Slot}
 use Rattle.lines.specs.declared.table.Class.the-variants.{Unknown}
-use Rattle.lines.specs.Hex.{pairAt}
-use Rattle.lines.specs.Entries.{Entry, entryAt, classOf, rowOf, slotOf, operandAt}
+use Rattle.lines.specs.Entries.{Entry, classOf, rowOf, slotOf}
+use Rattle.lines.specs.Engine.Starts.{pairAt, entryAt, operandAt, entriesOf}
 use Rattle.runs.specs.Results.{Result, gives, stops, _>>=_, _>>_, ensure}
 use Rattle.runs.specs.Reading.{Makes, leaf, one, two, choice, testLeaf, testOne, unknown, makes, Room, below, noEntry}
-use Rattle.runs.specs.Runs.{entriesOf}
-use Rattle.runs.specs.Checking.{mayStand, inside}
+use Rattle.runs.specs.Engine.Checking.{mayStand, roomInside}
 use Rattle.runs.specs.Theorems.Table.{subEntries, reads-subEntries}
-use Rattle.runs.specs.Ends.{stands, endBelow, endAt}
+use Rattle.runs.specs.Engine.Ends.{stands, endBelow, endAt}
 use Rattle.runs.proofs.TreeCheckRooms.{below-steps, may-alike, inside-alike}
 
 entry-of : {A B : Type 0} (f : A → B) (l : List A) (i : ℕ) (a : A) (b : B) → i < length l → getD (map f l) i b ≡ f (getD l i a)
@@ -53,7 +52,7 @@ module _ (E : List Entry) (room : Room) (asked : Bool) (p : ℕ) where
   abbrev pub Goes : ℕ → ℕ → ℕ → Result ℕ ℕ
   Goes k b s =
       ensure (mayStand b s room) p
-      >> (ensure (stands asked (classOf b)) p >> endBelow (endAt E k (inside b s room) false) (endAt E k (inside b s room) true) (rowOf b .1) (p + 1))
+      >> (ensure (stands asked (classOf b)) p >> endBelow (endAt E k (roomInside b s room) false) (endAt E k (roomInside b s room) true) (rowOf b .1) (p + 1))
 
   level-goes : (levels : ℕ) → 0 < levels → endAt E levels room asked p ≡ Goes (levels - 1) ((getD E p noEntry) .operation) (slotOf (getD E p noEntry))
   unfolding endAt

@@ -14,7 +14,7 @@ use Rattle.lines.specs.Entries.{Entry, rows, rowOf, slotOf}
 use Rattle.values.specs.Values.{among}
 use Rattle.runs.specs.Results.{gives, _>>_, ensure}
 use Rattle.runs.specs.Reading.{Room, insideEach, insideBind, below}
-use Rattle.runs.specs.Checking.{slotsOf, mayStand, inside}
+use Rattle.runs.specs.Engine.Checking.{slotsOf, mayStand, roomInside}
 
 -- ## Slots
 
@@ -41,8 +41,8 @@ slots-bound bytes k byte h = rw (add-one k, getD-set-same bytes k byte 0 h, slot
 -- ## The two steps
 
 pub below-steps : (e : Entry) (p : ℕ) (room : Room)
-    → below e p room ≡ (ensure (mayStand (e .operation) (slotOf e) room) p >> gives (inside (e .operation) (slotOf e) room))
-unfolding below mayStand inside
+    → below e p room ≡ (ensure (mayStand (e .operation) (slotOf e) room) p >> gives (roomInside (e .operation) (slotOf e) room))
+unfolding below mayStand roomInside
 below-steps e p room = go (eqb (e .operation) 0x0A) (eqb (e .operation) 0x0C) (eqb (e .operation) 0x05)
   where
     go : (a b c : Bool)
@@ -69,6 +69,6 @@ module _ (b k l : ℕ) (room : Room) (same : rowOf b .0 ≡ Slot → k ≡ l) wh
   unfolding mayStand rowOf rows
   may-alike = rw (slot-cond 0x05 refl (λ x. among x (room .slots)) true)
 
-  pub inside-alike : inside b k room ≡ inside b l room
-  unfolding inside rowOf rows
+  pub inside-alike : roomInside b k room ≡ roomInside b l room
+  unfolding roomInside rowOf rows
   inside-alike = rw (slot-cond 0x0C refl (λ x. insideBind x room) room)

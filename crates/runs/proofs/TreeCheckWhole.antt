@@ -14,10 +14,10 @@ use Rattle.runs.specs.declared.tree.Checked.the-variants.{Next, Fault}
 use Rattle.runs.specs.Results.{Result, gives, stops}
 use Rattle.runs.specs.Programs.{Transformation, Test}
 use Rattle.runs.specs.Reading.{Room, wholeRoom, mostLevels, readProgram, faultOf}
-use Rattle.runs.specs.Checking.{answerOf, EndedAt, EndedFrom, CheckedFrom, CheckedWhole}
-use Rattle.runs.specs.Ends.{endAt}
+use Rattle.runs.specs.Engine.Checking.{answerOf, EndedAt, EndedFrom, CheckedFrom, CheckedWhole}
+use Rattle.runs.specs.Engine.Ends.{endAt}
 use Rattle.runs.specs.Theorems.ByTable.{fault-by-table}
-use Rattle.runs.specs.Trees.{Stands, StandsTest}
+use Rattle.runs.specs.Engine.Trees.{Stands, StandsTest}
 use Rattle.runs.specs.Theorems.WholePrograms.{program-placed}
 use Rattle.runs.specs.Theorems.OneEnd.{OneEnd, one-end-of, one-test-end}
 

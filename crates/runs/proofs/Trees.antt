@@ -11,14 +11,14 @@ use borrow.Author.Tests.{leb-true}
 use lib.ListN.{length, getD, List·getD-eq-default}
 use Rattle.lines.specs.Entries.{Entry, slotOf, textOf}
 use Rattle.values.specs.Values.{among}
-use Rattle.runs.specs.declared.slots.Slots.{Slots as SlotWords}
+use Rattle.runs.specs.declared.slots.SlotWords.{SlotWords}
 use Rattle.runs.specs.Programs.{equals, Transformation, source, nothing, text, tag, slot, contents, within}
 use Rattle.runs.specs.Programs.{andThen, beside, each, choose, bind, Test, compares, tagged, isElement}
 use Rattle.runs.specs.Reading.{Makes, leaf, one, two, choice, testLeaf, testOne, unknown, operations, makes, Room, insideEach, insideBind, noEntry}
-use Rattle.runs.specs.Trees.{height, testHeight, Sound, SoundTest, Stands, StandsTest}
-use Rattle.runs.specs.Ends.{branchAt}
-use Rattle.runs.specs.Runs.{bytesTo, Bound, Ended, Inside, Ready, ReadyTest}
-use Rattle.runs.specs.SlotWords.{oneMore}
+use Rattle.runs.specs.Engine.Trees.{height, testHeight, Sound, SoundTest, Stands, StandsTest}
+use Rattle.runs.specs.Engine.Ends.{branchAt}
+use Rattle.runs.specs.Engine.Runs.{bytesTo, Bound, Ended, Inside, Ready, ReadyTest}
+use Rattle.runs.specs.Engine.SlotWords.{oneMore}
 use Rattle.runs.proofs.SlotLaws.{more-inside}
 
 -- ## The tree's form

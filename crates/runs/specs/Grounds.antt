@@ -5,8 +5,7 @@ use mathlib.Core.List.{List, [], _∷_, map}
 use lib.Dec.{eqb}
 use Rattle.lines.specs.declared.verdict.Verdict.{Verdict}
 use Rattle.lines.specs.declared.verdict.Verdict.the-variants.{Fine, Fault}
-use Rattle.lines.specs.Nodes.{isElement, untouchedMark, programNumber}
-use Rattle.lines.specs.Nodes.{Node as Line}
+use Rattle.lines.specs.Nodes.{Line, isElement, untouchedMark, programNumber, noLine}
 use Rattle.values.specs.Values.{Origin, master, program, Value, Lookup, bytesOf}
 use Rattle.values.specs.Standings.{Standing, _⋓_, isClash, gathered, brings, handsBack}
 use Rattle.runs.specs.declared.stop.Stop.{Stop}
@@ -25,9 +24,6 @@ pub record Numbered : Type 0 where
 unfoldable pub numberedFrom : ℕ → List Line → List Numbered
 numberedFrom n [] = []
 numberedFrom n (l ∷ ls) = record { number = n; line = l } ∷ numberedFrom (suc n) ls
-
-abbrev pub noLine : Line
-noLine = record { depth = 0; kind = 1; mark = untouchedMark; number = programNumber; text = [] }
 
 -- the line of number n
 unfoldable pub lineOf : List Numbered → ℕ → Line

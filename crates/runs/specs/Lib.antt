@@ -1,16 +1,11 @@
+-- What a reader believes, in document 01's order
 pub mod Results
 pub mod Programs
 pub mod Reading
-pub mod Trees
-pub mod Ends
 pub mod Showing
 pub mod PuttingBack
 pub mod Grounds
-pub mod Paper
+-- What the engine's own contracts speak of
+pub mod Engine
+-- What is proved of the rules
 pub mod Theorems
-pub mod Runs
-pub mod Ats
-pub mod Lookups
-pub mod SlotWords
-pub mod Leaves
-pub mod Checking

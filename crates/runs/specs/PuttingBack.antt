@@ -94,7 +94,7 @@ module _ (look : Lookup) where
     putBack (andThen e X Y) slots v ss us =
         let b = putBack Y slots (valueOf (show look X slots v)) ss us in
         putBack X slots v (b .inSource) (b .inSlots)
-    -- "09 cuts the view by the two shown lengths in top nodes, puts back X2, then X1, and merges the two sources"
+    -- "09 cuts the view by the two shown lengths in top nodes, puts back X2, then X1, and merges the two sources": here by nodes, which is the same cut (Theorems/Cuts)
     putBack (beside e X Y) slots v ss us =
         let m = length (valueOf (show look X slots v)) in
         let n = length (valueOf (show look Y slots v)) in

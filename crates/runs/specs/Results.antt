@@ -22,7 +22,7 @@ abbrev pub ensure : {E : Type 0} → Bool → E → Result E (Unit {0})
 ensure true e = gives tt
 ensure false e = stops e
 
--- "6: run stops for its source", "7: run stops for size", at the entry
+-- 6: "run stops for its source"; 7: "run stops for size"; at the entry
 unfoldable pub stopNumber : Stop → ℕ
 stopNumber (Source entry) = 6
 stopNumber (Size entry) = 7

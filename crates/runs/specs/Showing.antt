@@ -5,7 +5,7 @@ use mathlib.Core.List.{List, [], _∷_, _++_, map}
 use lib.ListN.{length}
 use lib.Dec.{leb, eqb}
 use Rattle.lines.specs.Texts.{sameText, agree}
-use Rattle.values.specs.Values.{Node, Value, Lookup, elementOf, bytesOf, numberOf, made, noTop, lowered, raised, items, mostNodes, withinBounds}
+use Rattle.values.specs.Values.{Node, Value, Lookup, elementOf, bytesOf, masterNumber, made, noTop, lowered, raised, items, mostNodes, withinBounds}
 use Rattle.runs.specs.declared.stop.Stop.{Stop}
 use Rattle.runs.specs.declared.stop.Stop.the-variants.{Source, Size}
 use Rattle.runs.specs.Results.{Result, gives, stops, _>>=_, _>>_, ensure}
@@ -138,7 +138,7 @@ module _ (look : Lookup) where
       a ← show X slots []
       y ← oneText look e (a .value)
       b ← verdict c e (bytesOf look (x .origin)) (bytesOf look (y .origin))
-      answer b (a .compared ++ (numberOf (x .origin) ++ numberOf (y .origin)))
+      answer b (a .compared ++ (masterNumber (x .origin) ++ masterNumber (y .origin)))
     -- 12 element with this tag: "needs exactly one element"
     test (tagged e t) slots v = do
       x ← oneElement look e v

@@ -3,6 +3,8 @@
 pub mod Combinators
 pub mod Inversion
 pub mod Congruence
+-- A run of the code, by what it answered
+pub mod RunAnswers
 -- The conservation law, and demand 3 from it and from stability
 pub mod Conservation
 pub mod Stability
@@ -23,7 +25,5 @@ pub mod ByTable
 pub mod Soundness
 pub mod WholePrograms
 pub mod OneEnd
--- The paper beside the rules
-pub mod Paper
 -- Computed
 pub mod Cases

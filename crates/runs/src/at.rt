@@ -1,12 +1,12 @@
 // Where a run stands: its entry, the extent of its source, the place of its value, the extent of the view that is put back, the levels left, and the slots bound on the way down.
-use crate::slots::Slots;
+use crate::slots::SlotWords;
 use crate::slots::bound;
 use crate::slots::no_slots;
 use crate::tree::LEVELS;
 ghost use mathlib.Core.Path.{_≡_};
 ghost use Prim.Native.Nat.{_≤_, _<_};
 ghost use lib.ListN.{length};
-ghost use Rattle.runs.specs.Ats.{belowOn, belowBound, withView, atRoot};
+ghost use Rattle.runs.specs.Engine.Ats.{belowOn, belowBound, withView, atRoot};
 
 // Wide fields first: it is copied at every level.
 pub struct At {
@@ -15,7 +15,7 @@ pub struct At {
     pub top: usize,
     pub view: usize,
     pub vlen: usize,
-    pub slots: Slots,
+    pub slots: SlotWords,
     pub entry: u8,
     pub levels: u8,
 }

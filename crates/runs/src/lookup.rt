@@ -12,12 +12,13 @@ use values::nodes::LEVEL;
 ghost use mathlib.Core.Path.{_≡_};
 ghost use mathlib.Core.List.{List};
 ghost use Prim.Native.Nat.{ℕ};
-ghost use Rattle.lines.specs.Texts.{textAt, sameText};
+ghost use Rattle.lines.specs.Texts.{sameText};
 ghost use Rattle.lines.specs.Texts.{agree as agreeing};
+ghost use Rattle.lines.specs.Engine.Starts.{linesOf, entriesOf, textAt};
 ghost use Rattle.values.specs.Values.{elementOf, bytesOf};
-ghost use Rattle.values.specs.Words.{nodeOf};
-ghost use Rattle.runs.specs.Runs.{entriesOf, linesOf, madeBy, lookupOf};
-ghost use Rattle.runs.specs.Lookups.{textIn};
+ghost use Rattle.values.specs.Engine.Words.{nodeOf};
+ghost use Rattle.runs.specs.Engine.Runs.{madeBy, lookupOf};
+ghost use Rattle.runs.specs.Engine.Lookups.{textIn};
 
 // The low half of a word: from this on an entry of the program.
 pub const PROGRAM: u32 = 0x8000;

@@ -28,11 +28,12 @@ ghost use mathlib.Core.Bool.{true};
 ghost use Prim.Native.Nat.{_+_, _-_, _≤_};
 ghost use lib.ListN.{length, getD, replicate};
 ghost use Rattle.lines.specs.Writing.{putAt};
+ghost use Rattle.lines.specs.Engine.Starts.{linesOf, entriesOf};
 ghost use Rattle.values.specs.Values.{among};
-ghost use Rattle.values.specs.Words.{part};
-ghost use Rattle.runs.specs.SlotWords.{boundTo};
-ghost use Rattle.runs.specs.Runs.{entriesOf, linesOf, bytesTo, Bound, mergedAt};
-ghost use Rattle.runs.specs.Ats.{operationAt, ReadyAt, ReadyTestAt, PutSpaceAt, TestSpaceAt, SeenAt, AskedAt, PutAt, TestPutAt};
+ghost use Rattle.values.specs.Engine.Words.{part};
+ghost use Rattle.runs.specs.Engine.SlotWords.{boundTo};
+ghost use Rattle.runs.specs.Engine.Runs.{bytesTo, Bound, mergedAt};
+ghost use Rattle.runs.specs.Engine.Ats.{operationAt, ReadyAt, ReadyTestAt, PutSpaceAt, TestSpaceAt, SeenAt, AskedAt, PutAt, TestPutAt};
 
 // A level has room for two values.
 pub const PUT_ROOM: usize = 2 * VALUE_ROOM;

@@ -31,14 +31,15 @@ ghost use mathlib.Core.Bool.{true};
 ghost use mathlib.Core.List.{[], _∷_};
 ghost use Prim.Native.Nat.{_+_, _≤_, _<_};
 ghost use lib.ListN.{length};
+ghost use Rattle.lines.specs.Engine.Starts.{linesOf, entriesOf};
 ghost use Rattle.values.specs.Values.{among};
-ghost use Rattle.values.specs.Words.{Made, nodeOf, valueAt};
+ghost use Rattle.values.specs.Engine.Words.{Made, nodeOf, valueAt};
 ghost use Rattle.runs.specs.Results.{gives};
 ghost use Rattle.runs.specs.Programs.{tagged, isElement};
 ghost use Rattle.runs.specs.Showing.{valueIn};
-ghost use Rattle.runs.specs.Runs.{entriesOf, linesOf, madeBy, lookupOf, slotsAt, bytesTo, Bound};
-ghost use Rattle.runs.specs.Ats.{operationAt, tagAt, ReadyAt, ReadyTestAt, SpaceAt, ShownAt, TestedAt};
-ghost use Rattle.runs.specs.Leaves.{isOneTop, isOneElement, isOneText, LeafSpaceAt, LeavesAt, ContentsAt, SaysAt};
+ghost use Rattle.runs.specs.Engine.Runs.{madeBy, lookupOf, slotsAt, bytesTo, Bound};
+ghost use Rattle.runs.specs.Engine.Ats.{operationAt, tagAt, ReadyAt, ReadyTestAt, SpaceAt, ShownAt, TestedAt};
+ghost use Rattle.runs.specs.Engine.Leaves.{isOneTop, isOneElement, isOneText, LeafSpaceAt, LeavesAt, ContentsAt, SaysAt};
 
 // "exactly one top node"
 fn one_top(work: &[u32], start: usize, len: usize) -> bool

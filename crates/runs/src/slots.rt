@@ -2,9 +2,9 @@
 ghost use mathlib.Core.Path.{_≡_};
 ghost use Prim.Native.Nat.{_<_, _≤_};
 ghost use lib.ListN.{length};
-ghost use Rattle.runs.specs.SlotWords.{noSlots, oneMore, boundTo};
+ghost use Rattle.runs.specs.Engine.SlotWords.{noSlots, oneMore, boundTo};
 
-pub struct Slots {
+pub struct SlotWords {
     pub starts: [u16; 4],
     pub bytes: [u8; 4],
     pub lens: [u8; 4],
@@ -12,10 +12,10 @@ pub struct Slots {
 }
 
 // No slot.
-pub fn no_slots() -> Slots
+pub fn no_slots() -> SlotWords
     ensures { λ r. ⌜ r ≡ noSlots ⌝ }
 {
-    Slots {
+    SlotWords {
         starts: [0u16; 4],
         bytes: [0u8; 4],
         lens: [0u8; 4],
@@ -24,7 +24,7 @@ pub fn no_slots() -> Slots
 }
 
 // One slot more, the innermost.
-pub fn bound(slots: Slots, byte: u8, start: usize, len: usize) -> Slots
+pub fn bound(slots: SlotWords, byte: u8, start: usize, len: usize) -> SlotWords
     requires { ⌜ (length (slots .bytes) ≡ 4) × (length (slots .starts) ≡ 4) × (length (slots .lens) ≡ 4) ⌝ }
     requires { ⌜ (slots .count < 4) × (start < 0x10000) × (len < 0x100) ⌝ }
     ensures { λ r. ⌜ r ≡ oneMore slots byte start len ⌝ }
@@ -39,7 +39,7 @@ pub fn bound(slots: Slots, byte: u8, start: usize, len: usize) -> Slots
 }
 
 // The innermost slot of this byte, by its place from the outermost; the number of slots where there is none.
-pub fn find(slots: Slots, byte: u8) -> usize
+pub fn find(slots: SlotWords, byte: u8) -> usize
     requires { ⌜ (length (slots .bytes) ≡ 4) × (slots .count ≤ 4) ⌝ }
     ensures { λ r. ⌜ r ≡ boundTo slots byte ⌝ }
 {

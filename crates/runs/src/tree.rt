@@ -9,11 +9,11 @@ ghost use mathlib.Core.Bool.{true, false};
 ghost use Prim.Native.Nat.{_≤_, _<_};
 ghost use lib.ListN.{length, getD};
 ghost use Rattle.lines.specs.Entries.{classOf, rowOf};
+ghost use Rattle.lines.specs.Engine.Starts.{entriesOf};
 ghost use Rattle.values.specs.Values.{among};
 ghost use Rattle.runs.specs.Reading.{wholeRoom, insideEach, insideBind};
-ghost use Rattle.runs.specs.Runs.{entriesOf};
-ghost use Rattle.runs.specs.Ends.{stands, endOf, endBelow, endAt, branchAt};
-ghost use Rattle.runs.specs.Checking.{roomOf, Kept, mayStand, inside, Sized, CheckedFrom, CheckedWhole};
+ghost use Rattle.runs.specs.Engine.Ends.{stands, endOf, endBelow, endAt, branchAt};
+ghost use Rattle.runs.specs.Engine.Checking.{roomOf, RoomKept, mayStand, roomInside, Sized, CheckedFrom, CheckedWhole};
 
 // "no entry is at level 13"
 pub const LEVELS: u8 = 12;
@@ -33,7 +33,7 @@ pub enum Checked {
 }
 
 fn whole_room() -> Room
-    ensures { λ r. ⌜ Kept r ⌝ }
+    ensures { λ r. ⌜ RoomKept r ⌝ }
     ensures { λ r. ⌜ roomOf r ≡ wholeRoom ⌝ }
 {
     Room {
@@ -46,7 +46,7 @@ fn whole_room() -> Room
 
 // From the innermost slot outwards.
 fn is_bound(room: Room, byte: u8) -> bool
-    requires { ⌜ Kept room ⌝ }
+    requires { ⌜ RoomKept room ⌝ }
     ensures { λ r. ⌜ r ≡ among byte (roomOf room .slots) ⌝ }
 {
     let bytes = room.bytes;
@@ -62,7 +62,7 @@ fn is_bound(room: Room, byte: u8) -> bool
 
 // Whether an entry of this operation and slot byte may stand in the room: 0A and 0C while some are left, 05 inside a 0C of its slot.
 fn may_stand(room: Room, operation: u8, byte: u8) -> bool
-    requires { ⌜ Kept room ⌝ }
+    requires { ⌜ RoomKept room ⌝ }
     ensures { λ r. ⌜ r ≡ mayStand operation byte (roomOf room) ⌝ }
 {
     match operation {
@@ -74,9 +74,9 @@ fn may_stand(room: Room, operation: u8, byte: u8) -> bool
 }
 
 fn inside_each(room: Room) -> Room
-    requires { ⌜ Kept room ⌝ }
+    requires { ⌜ RoomKept room ⌝ }
     requires { ⌜ 1 ≤ room .eaches ⌝ }
-    ensures { λ r. ⌜ Kept r ⌝ }
+    ensures { λ r. ⌜ RoomKept r ⌝ }
     ensures { λ r. ⌜ roomOf r ≡ insideEach (roomOf room) ⌝ }
 {
     let bytes = room.bytes;
@@ -89,9 +89,9 @@ fn inside_each(room: Room) -> Room
 }
 
 fn inside_bind(room: Room, byte: u8) -> Room
-    requires { ⌜ Kept room ⌝ }
+    requires { ⌜ RoomKept room ⌝ }
     requires { ⌜ 1 ≤ room .binds ⌝ }
-    ensures { λ r. ⌜ Kept r ⌝ }
+    ensures { λ r. ⌜ RoomKept r ⌝ }
     ensures { λ r. ⌜ roomOf r ≡ insideBind byte (roomOf room) ⌝ }
 {
     let mut bytes = room.bytes;
@@ -107,10 +107,10 @@ fn inside_bind(room: Room, byte: u8) -> Room
 
 // What such an entry leaves to those below it.
 fn room_below(room: Room, operation: u8, byte: u8) -> Room
-    requires { ⌜ Kept room ⌝ }
+    requires { ⌜ RoomKept room ⌝ }
     requires { ⌜ mayStand operation byte (roomOf room) ≡ true ⌝ }
-    ensures { λ r. ⌜ Kept r ⌝ }
-    ensures { λ r. ⌜ roomOf r ≡ inside operation byte (roomOf room) ⌝ }
+    ensures { λ r. ⌜ RoomKept r ⌝ }
+    ensures { λ r. ⌜ roomOf r ≡ roomInside operation byte (roomOf room) ⌝ }
 {
     match operation {
         0x0A => inside_each(room),
@@ -142,7 +142,7 @@ fn check_at(
     room: Room,
 ) -> Checked
     requires { ⌜ Sized (now entries) (now ends) ⌝ }
-    requires { ⌜ Kept room ⌝ }
+    requires { ⌜ RoomKept room ⌝ }
     ensures { λ r. ⌜ (let E = entriesOf (now (prog .entry)) (now (entries .entry)) in
         CheckedFrom E (now (ends .entry)) (now (ends .exit)) entry (endAt E levels (roomOf room) test entry) r) ⌝ }
 {
@@ -183,7 +183,7 @@ fn check_below(
     room: Room,
 ) -> Checked
     requires { ⌜ Sized (now entries) (now ends) ⌝ }
-    requires { ⌜ Kept room ⌝ }
+    requires { ⌜ RoomKept room ⌝ }
     ensures { λ r. ⌜ (let E = entriesOf (now (prog .entry)) (now (entries .entry)) in
         let ends-of = endAt E levels (roomOf room) in
         CheckedFrom E (now (ends .entry)) (now (ends .exit)) entry (endBelow (ends-of false) (ends-of true) (rowOf operation .1) entry) r) ⌝ }
@@ -208,7 +208,7 @@ fn check_two(
     room: Room,
 ) -> Checked
     requires { ⌜ Sized (now entries) (now ends) ⌝ }
-    requires { ⌜ Kept room ⌝ }
+    requires { ⌜ RoomKept room ⌝ }
     ensures { λ r. ⌜ (let E = entriesOf (now (prog .entry)) (now (entries .entry)) in
         CheckedFrom E (now (ends .entry)) (now (ends .exit)) entry (endOf (endAt E levels (roomOf room) false) 2 entry) r) ⌝ }
 {
@@ -229,7 +229,7 @@ fn check_choice(
     room: Room,
 ) -> Checked
     requires { ⌜ Sized (now entries) (now ends) ⌝ }
-    requires { ⌜ Kept room ⌝ }
+    requires { ⌜ RoomKept room ⌝ }
     ensures { λ r. ⌜ (let E = entriesOf (now (prog .entry)) (now (entries .entry)) in
         let ends-of = endAt E levels (roomOf room) in
         CheckedFrom E (now (ends .entry)) (now (ends .exit)) entry (endBelow (ends-of false) (ends-of true) 3 entry) r) ⌝ }

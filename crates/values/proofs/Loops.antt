@@ -1,43 +1,18 @@
 -- Steps of the loops over an extent.
-use mathlib.Core.Path.{_≡_, refl, sym, _∙_, ap, ap₂}
-use mathlib.Core.Bool.{Bool, true, false, cond, _&&_, not}
+use mathlib.Core.Path.{_≡_, refl, _∙_, ap, ap₂}
+use mathlib.Core.Bool.{true, false}
 use mathlib.Core.List.{List, [], _∷_, map}
 use mathlib.Core.Logic.{_⊎_, inl, inr}
 use Prim.Native.Nat.{ℕ, zero, suc, _+_, _-_, _/_, _≤_, _<_}
 use native.Mathlib.Nat.{not-suc-le-zero, le-of-suc-le-suc}
-use native.Mathlib.Numerals.{add-one}
 use native.Mathlib.Omega.{arith}
 use borrow.Author.Tests.{lt-ltb, le-ltb, lt-leb, le-leb}
-use lib.ListN.{length, getD, take, drop, length-map, List·getD-map}
-use Rattle.lines.specs.Writing.{putAt}
-use Rattle.values.specs.Values.{Value, isTop, under, shallow}
-use Rattle.values.specs.Words.{Made, part, nodeOf, valueAt, mergedWord, mergedWords}
-use Rattle.values.specs.Theorems.Extents.{length-part, getD-part, put-none, put-more, put-reads}
+use lib.ListN.{length, getD, length-map}
+use Rattle.lines.specs.Theorems.Lists.{map-at}
+use Rattle.values.specs.Values.{Value, under, shallow}
+use Rattle.values.specs.Engine.Words.{Made, part, nodeOf, valueAt, mergedWord, mergedWords}
+use Rattle.values.specs.Theorems.Extents.{length-part, getD-part}
 use Rattle.values.specs.Theorems.WordLaws.{value-cons, value-none, top-word}
-
--- where the loop stands: i of the new words are put
-pub record Putting (w₀ : List ℕ) (to : ℕ) (new : List ℕ) (len : ℕ) (w : List ℕ) (i : ℕ) : Type 0 where
-  pub most : i ≤ len
-  pub long : length w ≡ length w₀
-  pub so-far : w ≡ putAt w₀ to (take i new)
-
--- the new words, one for each of len; they fit
-module _ (w₀ : List ℕ) (to : ℕ) (new : List ℕ) (len : ℕ) (all : length new ≡ len) (fits : to + len ≤ length w₀) where
-  pub putting-starts : Putting w₀ to new len w₀ 0
-  putting-starts = record { most = omega arith; long = refl; so-far = put-none w₀ to }
-
-  pub putting-goes-on : {w : List ℕ} {i x : ℕ} → Putting w₀ to new len w i → i < len → x ≡ getD new i 0 → Putting w₀ to new len (lib.ListN.set w (to + i) x) (i + 1)
-  putting-goes-on {w} {i} {x} p h e =
-      record { most = omega arith; long = lib.ListN.length-set w (to + i) x ∙ p .long; so-far = put-more w₀ to new i (omega arith) (omega arith) (p .so-far) e }
-
-  pub putting-ends : {w : List ℕ} {i : ℕ} → Putting w₀ to new len w i → len ≤ i → w ≡ putAt w₀ to new
-  putting-ends {w} {i} p h = p .so-far ∙ ap (putAt w₀ to) (lib.Seq.take-all i new (omega arith))
-
-  -- a word that is still to be read is as it was
-  pub putting-reads : {w : List ℕ} {i : ℕ} → Putting w₀ to new len w i → (k : ℕ) → (k < to) ⊎ (to + i ≤ k) → getD w k 0 ≡ getD w₀ k 0
-  putting-reads {w} {i} p k side =
-      let m = p .most in
-      ap (λ (l : List ℕ). getD l k 0) (p .so-far) ∙ put-reads w₀ to new i (omega arith) (omega arith) k side
 
 -- a source before the place or behind it, while its word i is read
 pub apart : (from to len i : ℕ) → (to ≤ from) ⊎ (from + len ≤ to) → i < len → (from + i < to) ⊎ (to + i ≤ from + i)
@@ -51,14 +26,7 @@ mapped-long f w from len h = length-map (part w from len) f ∙ length-part w fr
 
 pub mapped-at : (f : ℕ → ℕ) (w : List ℕ) (from len i : ℕ) → i < len → from + len ≤ length w → getD (map f (part w from len)) i 0 ≡ f (getD w (from + i) 0)
 mapped-at f w from len i h fits =
-    Rattle.lines.specs.Theorems.Lists.getD-any (map f (part w from len)) i 0 (f 0) (omega (arith, mapped-long f w from len fits))
-    ∙ (List·getD-map f (part w from len) i 0 ∙ ap f (getD-part w from len i h))
-
-pub merged-long : (k l : List ℕ) → length k ≡ length l → length (mergedWords k l) ≡ length k
-unfolding mergedWords
-merged-long [] l e = refl
-merged-long (a ∷ k) [] e = absurd (omega arith)
-merged-long (a ∷ k) (b ∷ l) e = ap suc (merged-long k l (omega arith))
+    map-at f (part w from len) i 0 0 (omega (arith, length-part w from len fits)) ∙ ap f (getD-part w from len i h)
 
 merged-getD : (k l : List ℕ) (i : ℕ) → i < length k → i < length l → getD (mergedWords k l) i 0 ≡ mergedWord (getD k i 0) (getD l i 0)
 unfolding mergedWords

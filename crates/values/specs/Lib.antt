@@ -1,4 +1,7 @@
+-- What a reader believes
 pub mod Values
 pub mod Standings
-pub mod Words
+-- What the engine's own contracts speak of
+pub mod Engine
+-- What is proved of these
 pub mod Theorems

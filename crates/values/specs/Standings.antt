@@ -4,8 +4,7 @@ use mathlib.Core.Bool.{Bool, cond, _&&_, _||_}
 use mathlib.Core.List.{List, [], _∷_, map}
 use lib.Dec.{eqb}
 use Rattle.lines.specs.Texts.{sameText}
-use Rattle.lines.specs.Nodes.{changedMark, deletedMark}
-use Rattle.lines.specs.Nodes.{Node as Line}
+use Rattle.lines.specs.Nodes.{Line, changedMark, deletedMark}
 use Rattle.values.specs.Values.{Value, isFrom}
 
 -- "untouched, locked, changed to a text, deleted, or clash"
@@ -80,7 +79,7 @@ gathered n (x ∷ v) ss = cond (isFrom n (x .origin)) (firstOf ss) untouched ⋓
 -- ## Lines
 
 -- what a view line brings, by the bytes of the fresh line (at which no case looks), its own mark and its own bytes:
--- "untouched (mark 00), changed to its bytes (01) or deleted (02)"; "a line marked 01 counts as changed even if its text is the old one"
+-- "untouched (mark 00), changed to its bytes (01) or deleted (02)"; "A line marked 01 counts as changed even if its text is the old one"
 unfoldable pub brings : List ℕ → ℕ → List ℕ → Standing
 brings fresh mark bytes = cond (eqb mark changedMark) (changed bytes) (cond (eqb mark deletedMark) deleted untouched)
 
@@ -88,7 +87,7 @@ brings fresh mark bytes = cond (eqb mark changedMark) (changed bytes) (cond (eqb
 unfoldable pub isEdit : List ℕ → ℕ → List ℕ → Bool
 isEdit fresh mark bytes = eqb mark changedMark || eqb mark deletedMark
 
--- what a standing leaves of the master's line: "locked is handed back as untouched", "deleted nodes stay, marked"
+-- what a standing leaves of the master's line: "locked is handed back as untouched", "Deleted nodes stay, marked"
 unfoldable pub handsBack : Line → Standing → Line
 handsBack l untouched = l
 handsBack l locked = l

@@ -1,5 +1,4 @@
 -- What is proved of values and standings. No definition outside this folder rests on it.
-pub mod Bools
 pub mod MergeLaws
 pub mod Gathering
 pub mod Copies

@@ -38,9 +38,9 @@ isFrom n (master m) = eqb n m
 isFrom n (program entry element bytes) = false
 
 -- the master's number, if it has one
-unfoldable pub numberOf : Origin → List ℕ
-numberOf (master n) = n ∷ []
-numberOf (program entry element bytes) = []
+unfoldable pub masterNumber : Origin → List ℕ
+masterNumber (master n) = n ∷ []
+masterNumber (program entry element bytes) = []
 
 -- whether n is one of these numbers
 unfoldable pub among : ℕ → List ℕ → Bool
@@ -76,11 +76,11 @@ unfoldable pub onward : Value → Value
 onward [] = []
 onward (x ∷ v) = cond (isTop x) (x ∷ v) (onward v)
 
--- contents of an element, as a value
+-- every depth one less, and 0 stays 0: of the nodes under an element, its contents as a value
 unfoldable pub lowered : Value → Value
 lowered v = map (λ x. record { depth = pred (x .depth); origin = x .origin }) v
 
--- a value, as the contents of an element
+-- every depth one more: a value as the contents of an element
 unfoldable pub raised : Value → Value
 raised v = map (λ x. record { depth = suc (x .depth); origin = x .origin }) v
 

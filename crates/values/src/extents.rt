@@ -4,7 +4,7 @@ ghost use mathlib.Core.Logic.{_⊎_};
 ghost use Prim.Native.Nat.{_+_, _≤_};
 ghost use lib.ListN.{length, replicate};
 ghost use Rattle.lines.specs.Writing.{putAt};
-ghost use Rattle.values.specs.Words.{part};
+ghost use Rattle.values.specs.Engine.Words.{part};
 
 // "A value has at most 128 nodes"
 pub const MOST_NODES: usize = 128;

@@ -6,7 +6,7 @@ ghost use Prim.Native.Nat.{_+_, _-_, _<_, _≤_};
 ghost use lib.ListN.{length};
 ghost use Rattle.lines.specs.Writing.{putAt};
 ghost use Rattle.values.specs.Values.{noTop, under, shallow};
-ghost use Rattle.values.specs.Words.{Made, part, valueAt, loweredWord, raisedWord, leveledWord, FirstItem};
+ghost use Rattle.values.specs.Engine.Words.{Made, part, valueAt, loweredWord, raisedWord, leveledWord, FirstItem};
 
 // A word's depth is its high half.
 pub const LEVEL: u32 = 0x10000;

@@ -4,7 +4,7 @@ ghost use mathlib.Core.Logic.{_⊎_};
 ghost use Prim.Native.Nat.{_+_, _≤_};
 ghost use lib.ListN.{length};
 ghost use Rattle.lines.specs.Writing.{putAt};
-ghost use Rattle.values.specs.Words.{part, mergedWord, mergedWords};
+ghost use Rattle.values.specs.Engine.Words.{part, mergedWord, mergedWords};
 
 pub const UNTOUCHED: u32 = 0;
 

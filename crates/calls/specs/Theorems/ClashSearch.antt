@@ -7,17 +7,13 @@ use mathlib.Core.Logic.{_⊎_, inl, inr}
 use native.Mathlib.Omega.{arith}
 use lib.Dec.{eqb}
 use borrow.Author.Tests.{eqb-true, eq-eqb, not-false}
-use Rattle.lines.specs.Nodes.{changedMark, isMarked}
-use Rattle.lines.specs.Nodes.{Node as Line}
+use Rattle.lines.specs.Nodes.{Line, changedMark, isMarked, lineAt, noLine}
 use Rattle.lines.specs.Texts.{sameText}
-use Rattle.lines.specs.Theorems.Bools.{and-left, and-right, and-both}
+use Rattle.lines.specs.Theorems.Bools.{and-left, and-right, and-both, or-other}
 use Rattle.values.specs.Values.{among}
-use Rattle.values.specs.Theorems.Bools.{or-other}
 use Rattle.values.specs.Theorems.MergeLaws.{sameText-sound, sameText-refl}
 use Rattle.values.specs.Theorems.Copies.{bool-cases}
-use Rattle.runs.specs.Grounds.{noLine}
-use Rattle.runs.specs.Theorems.Demand3.{lineAt}
-use Rattle.calls.specs.Theorems.Demands.{EditedLine, SameEdit, Acceptable, Clashes, differ, compare}
+use Rattle.calls.specs.Demands.{EditedLine, SameEdit, Acceptable, Clashes, differ, compare}
 
 -- a line of which a test is true, or none
 find : (test : Line → Bool) → test noLine ≡ false → (ls : List Line) → ((i : ℕ) × (test (lineAt ls i) ≡ true)) ⊎ ((i : ℕ) → test (lineAt ls i) ≡ false)

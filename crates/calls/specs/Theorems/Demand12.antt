@@ -1,24 +1,18 @@
 -- Showing and putting back refuse as the judging says and leave the output then (demand 1), and write what the rules say (demand 2).
-use Prim.Native.Nat.{ℕ, _+_}
-use mathlib.Core.Path.{_≡_, refl, ap, _∙_}
+use Prim.Native.Nat.{ℕ}
+use mathlib.Core.Path.{_≡_, refl}
 use mathlib.Core.Bool.{true, false}
 use mathlib.Core.List.{List}
-use native.Mathlib.Nat.{zero-add}
-use lib.ListN.{length, drop}
-use lib.Seq.{drop-append-seam}
-use Rattle.lines.specs.Nodes.{Node as Line}
+use lib.ListN.{length}
+use Rattle.lines.specs.Nodes.{Line}
 use Rattle.lines.specs.Verdicts.{Reply}
 use Rattle.lines.specs.Writing.{fileOf, putAt}
+use Rattle.lines.specs.Theorems.PutAt.{put-front, front-behind}
 use Rattle.runs.specs.Results.{gives, stops}
 use Rattle.calls.specs.Judging.{Judged, judgedShow, judgedPutBack}
 use Rattle.calls.specs.Outcomes.{Outcome, outcome, enough, cleared, settled, called, showCall, putBackCall}
-use Rattle.calls.specs.Theorems.Replies.{by-outcome, put-front}
-use Rattle.calls.specs.Theorems.Demands.{numberOf, lengthOf, outputOf, RefusesRightly, ShowDemand1, PutDemand1, WritesRightly, ShowDemand2, PutDemand2}
-
--- what stands behind the bytes put in front
-put-behind : (out v : List ℕ) → drop (length v) (putAt out 0 v) ≡ drop (length v) out
-unfolding putAt
-put-behind out v = drop-append-seam v (drop (0 + length v) out) ∙ ap (λ (k : ℕ). drop k out) (zero-add (length v))
+use Rattle.calls.specs.Theorems.Replies.{by-outcome}
+use Rattle.calls.specs.Demands.{numberOf, lengthOf, outputOf, RefusesRightly, ShowDemand1, PutDemand1, WritesRightly, ShowDemand2, PutDemand2}
 
 -- ## A call, by its judging
 
@@ -43,18 +37,18 @@ module _ (judged : Judged (List Line)) (out work : List ℕ) where
   called-untouched : Untouched (called judged out work)
   called-untouched = by-outcome Untouched judged out work (λ _ _. (refl, refl)) (λ _ _ _ _. (refl, refl)) (λ _ _ _ n. absurd (n refl))
 
-called-refuses : (judged : Judged (List Line)) → RefusesRightly judged (called judged)
-called-refuses judged =
+called-refuses : (judged : Judged (List Line)) (out work : List ℕ) → RefusesRightly judged out work (called judged out work)
+called-refuses judged out work =
     record {
-      short = λ out work h. rw (called-short judged out work h) (refl, refl);
-      refused = λ out work h r e. rw (called-stops judged out work h r e) (refl, refl);
-      untouched = λ out work. called-untouched judged out work;
+      short = λ h. rw (called-short judged out work h) (refl, refl);
+      refused = λ h r e. rw (called-stops judged out work h r e) (refl, refl);
+      untouched = called-untouched judged out work;
     }
 
-called-writes : (judged : Judged (List Line)) → WritesRightly judged (called judged)
+called-writes : (judged : Judged (List Line)) (out work : List ℕ) → WritesRightly judged out work (called judged out work)
 called-writes judged out work h ls e =
     rw (called-gives judged out work h ls e)
-    (record { done = (refl, refl); counts = refl; lines = put-front out (fileOf ls); behind = put-behind out (fileOf ls) })
+    (record { done = (refl, refl); counts = refl; lines = put-front out (fileOf ls); behind = front-behind out (fileOf ls) })
 
 -- ## Ours
 

@@ -9,14 +9,15 @@ use lib.ListN.{length}
 use Rattle.lines.specs.declared.scan.File.the-variants.{View}
 use Rattle.lines.specs.declared.verdict.Verdict.{Verdict}
 use Rattle.lines.specs.declared.verdict.Verdict.the-variants.{Fine, Fault}
-use Rattle.lines.specs.Nodes.{untouchedMark, programNumber, isMarked, kindRule, nodes}
-use Rattle.lines.specs.Nodes.{Node as Line}
+use Rattle.lines.specs.Nodes.{Line, untouchedMark, programNumber, isMarked, kindRule, nodes, lineAt}
 use Rattle.lines.specs.Files.{scan}
 use Rattle.lines.specs.Masters.{unmarked}
 use Rattle.lines.specs.Verdicts.{reply}
 use Rattle.lines.specs.Views.{firstDifference, programMark}
 use Rattle.lines.specs.Writing.{fileOf, putAt}
 use Rattle.lines.specs.Theorems.RoundTrip.{nodes-written}
+use Rattle.lines.specs.Theorems.PutAt.{put-front}
+use Rattle.lines.specs.Theorems.LineRules.{fields-at, rule-kind}
 use Rattle.values.specs.Values.{Value}
 use Rattle.values.specs.Standings.{Standing}
 use Rattle.values.specs.Theorems.Copies.{isCopy}
@@ -24,24 +25,22 @@ use Rattle.runs.specs.Results.{gives}
 use Rattle.runs.specs.Programs.{Transformation}
 use Rattle.runs.specs.Showing.{Shown}
 use Rattle.runs.specs.Grounds.{numberedFrom, lineOf, Ground, oneMaster, showing, view, standingFor, firstClash, handedBack, linesIn}
-use Rattle.runs.specs.Theorems.FreshView.{one-unmarked}
+use Rattle.runs.specs.Theorems.FreshView.{view-mark, one-unmarked}
 use Rattle.runs.specs.Theorems.Demand3 as rules
-use Rattle.runs.specs.Theorems.Demand3.{lineAt, Accepted, Edited, Criterion, TextMarks}
+use Rattle.runs.specs.Theorems.Demand3.{Accepted, Edited, Criterion, TextMarks}
 use Rattle.runs.specs.Theorems.OneMaster.{one-after, one-demand3, one-again}
 use Rattle.runs.specs.Theorems.SameView.{same-formed, same-textMarks}
 use Rattle.runs.specs.Theorems.ViewLines.{Shows, view-shows, view-made, view-depth}
 use Rattle.calls.specs.Judging.{formed, keeps, ran, masterRule, judgedProgram, judgedMaster, judgedView, judgedStandings, judgedShow, judgedPutBack}
 use Rattle.calls.specs.Outcomes.{Outcome, outcome, enough, cleared, showCall, putBackCall}
 use Rattle.calls.specs.Theorems.Judged.{on-after, formed-lines, keeps-fine, Holds, MasterPassed, master-passed, rule-unmarked, view-holds, master-passes, standings-pass}
-use Rattle.calls.specs.Theorems.Replies.{put-front}
-use Rattle.calls.specs.Theorems.LineRules.{fields-at, rule-kind}
 use Rattle.calls.specs.Theorems.FreshLines.{fresh-writable, length-view}
 use Rattle.calls.specs.Theorems.Returned.{Returned, returned-writable}
-use Rattle.calls.specs.Theorems.Demands.{numberOf, placeOf, written, FromProgram, FromMaster, Given, EditedLine, Acceptable}
-use Rattle.calls.specs.Theorems.Demands.{Clashes, withEdit, HasEdits, SameLines, Answers, Demand3}
+use Rattle.calls.specs.Demands.{numberOf, placeOf, written, FromProgram, FromMaster, Given, EditedLine, Acceptable}
+use Rattle.calls.specs.Demands.{Clashes, withEdit, HasEdits, SameLines, Answers, Demand3}
 use Rattle.calls.specs.Theorems.Demand12.{called-gives, called-stops}
 use Rattle.calls.specs.Theorems.ViewEdits.{none-faulty, unmarked-zero, zero-unmarked, edits-pass, pass-edits}
-use Rattle.calls.specs.Theorems.ShownNumbers.{line-of, number-copy, copy-or-made, shown-number, view-unmarked, handed-kind}
+use Rattle.calls.specs.Theorems.ShownNumbers.{line-of, number-copy, copy-or-made, shown-number, handed-kind}
 use Rattle.calls.specs.Theorems.EditedLines.{Edits, rule-mark, marked-edits, edits-marked, edits-edit, edit-edits, brings-same, same-brings, edit-leaves}
 use Rattle.calls.specs.Theorems.ClashSearch.{unacceptable-clashes, acceptable-no-clash}
 
@@ -52,7 +51,7 @@ lines-unmarked ls h i = unmarked-zero (lineAt ls i) (none-faulty isMarked 0 ls _
 
 -- nor has a line that it shows
 fresh-plain : (master : List ℕ) (ls : List Line) → judgedMaster true master ≡ gives ls → (v : Value) (i : ℕ) → (lineAt (view (oneMaster ls) v) i) .mark ≡ untouchedMark
-fresh-plain master ls h = view-unmarked (oneMaster ls) (one-unmarked 0 ls (lines-unmarked ls (rule-unmarked ls ((master-passed true master ls h) .rule))))
+fresh-plain master ls h = view-mark (oneMaster ls) (one-unmarked 0 ls (lines-unmarked ls (rule-unmarked ls ((master-passed true master ls h) .rule))))
 
 -- what is given is no more than that 1 to 10 are passed
 pub pass-given : (master program edited out work : List ℕ) → enough out work ≡ true → (X : Transformation) → judgedProgram program ≡ gives X

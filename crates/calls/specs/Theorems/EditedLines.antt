@@ -7,11 +7,10 @@ use mathlib.Core.Logic.{_⊎_, inl, inr}
 use native.Mathlib.Omega.{arith}
 use lib.Dec.{leb, eqb}
 use borrow.Author.Tests.{leb-true, eqb-true, eqb-false, not-true}
-use Rattle.lines.specs.Nodes.{untouchedMark, changedMark, deletedMark, isMarked, isElement, isTag, kindRule}
-use Rattle.lines.specs.Nodes.{Node as Line}
+use Rattle.lines.specs.Nodes.{Line, untouchedMark, changedMark, deletedMark, isMarked, isElement, isTag, kindRule}
 use Rattle.lines.specs.Theorems.Bools.{never, and-left, and-right, or-cases}
 use Rattle.values.specs.Standings.{changed, deleted, sort, brings, isEdit, handsBack}
-use Rattle.calls.specs.Theorems.Demands.{SameEdit, withEdit}
+use Rattle.calls.specs.Demands.{SameEdit, withEdit}
 
 -- changed or deleted
 abbrev pub Edits : ℕ → Type 0

@@ -4,7 +4,7 @@ use mathlib.Core.Bool.{Bool, true, false, cond, _&&_}
 use mathlib.Core.List.{List, [], _∷_, map}
 use Prim.Native.Nat.{ℕ, zero, suc, _+_, _≤_, _<_}
 use native.Mathlib.Omega.{arith}
-use lib.Dec.{leb, ltb}
+use lib.Dec.{leb, ltb, eqb}
 use lib.ListN.{length, getD, drop, length-drop, length-map}
 use borrow.Author.Tests.{leb-true, eqb-true}
 use Rattle.lines.specs.declared.scan.File.the-variants.{Program, View}
@@ -12,16 +12,17 @@ use Rattle.lines.specs.declared.scan.Scan.the-variants.{Lines, Wrong}
 use Rattle.lines.specs.declared.verdict.Verdict.the-variants.{Fine}
 use Rattle.lines.specs.Hex.{decode}
 use Rattle.lines.specs.Lines.{cut, isLine}
-use Rattle.lines.specs.Nodes.{untouchedMark, isElement, isTag, kindRule, nodes}
-use Rattle.lines.specs.Nodes.{Node as Line}
+use Rattle.lines.specs.Nodes.{Line, untouchedMark, isElement, isTag, kindRule}
 use Rattle.lines.specs.Entries.{Entry, rows, rowOf, textForm, operandForm, entryForm, entryLine, entryOf, entries, textOf}
-use Rattle.lines.specs.Files.{formOf, limitOf, widestOf, longestOf, scanFrom, scan}
+use Rattle.lines.specs.Files.{formOf, limitOf, scanFrom, scan}
 use Rattle.lines.specs.Masters.{masterBounds}
-use Rattle.lines.specs.Writing.{Bytes, Writable, AllWritable, fileOf}
+use Rattle.lines.specs.Writing.{fileOf}
 use Rattle.lines.specs.Theorems.Bools.{and-left, and-right}
 use Rattle.lines.specs.Theorems.Pairs.{decode-bytes}
-use Rattle.lines.specs.Theorems.Widths.{scanned-short}
-use Rattle.lines.specs.Theorems.RoundTrip.{view-of-nodes, scan-written, nodes-written}
+use Rattle.lines.specs.Theorems.Widths.{file-short}
+use Rattle.lines.specs.Theorems.RoundTrip.{view-of-nodes, scan-written}
+use Rattle.lines.specs.Theorems.LineRules.{Short, Fields, rule-made, fields-writable, writable-fields, no-line}
+use Rattle.lines.specs.Engine.Writes.{Bytes, Writable, AllWritable}
 use Rattle.values.specs.Values.{Origin, Value}
 use Rattle.values.specs.Values.{master as ofMaster, program as ofProgram}
 use Rattle.values.specs.Theorems.Forests.{Shallow}
@@ -29,12 +30,11 @@ use Rattle.runs.specs.Results.{gives}
 use Rattle.runs.specs.Programs.{Transformation}
 use Rattle.runs.specs.Reading.{noEntry}
 use Rattle.runs.specs.Showing.{Shown}
-use Rattle.runs.specs.Grounds.{numberedFrom, lookupIn, whole, oneMaster, showing, shownLine, view}
+use Rattle.runs.specs.Grounds.{numberedFrom, lineOf, lookupIn, whole, oneMaster, showing, shownLine, view}
 use Rattle.runs.specs.Theorems.Bounds.{master-shows-good}
 use Rattle.runs.specs.Theorems.WholePrograms.{program-placed}
 use Rattle.calls.specs.Judging.{judgedProgram, judgedShow}
 use Rattle.calls.specs.Theorems.Judged.{program-passed, master-passed, show-passed}
-use Rattle.calls.specs.Theorems.LineRules.{Short, rule-made, fields-writable, fields-of}
 use Rattle.calls.specs.Theorems.Origins.{All, shows-all}
 
 -- ## The entries of a program whose lines have the form
@@ -91,6 +91,17 @@ unfolding rowOf rows operandForm textOf
 made-tag e f o =
     let h : (textForm (e .operand) && isTag (drop 1 (e .operand))) ≡ true = subst (λ (b : ℕ). operandForm (rowOf b .0) (e .operand) ≡ true) o (f .form) in
     (text-short (e .operand) (f .bytes) (and-left (textForm (e .operand)) _ h), and-right (textForm (e .operand)) _ h)
+
+-- ## A master's lines by their numbers
+
+pub fields-of : (k : ℕ) (ls : List Line) → AllWritable ls → (n : ℕ) → Fields (lineOf (numberedFrom k ls) n)
+unfolding numberedFrom lineOf
+fields-of k [] g n = no-line
+fields-of k (l ∷ ls) g n = go (eqb n k) (fields-of (suc k) ls (g .1) n)
+  where
+    go : (b : Bool) → Fields (lineOf (numberedFrom (suc k) ls) n) → Fields (cond b l (lineOf (numberedFrom (suc k) ls) n))
+    go true r = writable-fields l (g .0)
+    go false r = r
 
 -- ## What is shown
 
@@ -155,17 +166,10 @@ pub length-view : (ls : List Line) (v : Value) → length (view (oneMaster ls) v
 unfolding view
 length-view ls v = length-map v _
 
--- lines that can be written, and their file
+-- lines that can be written, and their file: it scans
 pub fresh-scan : (ls : List Line) → AllWritable ls → length ls ≤ 128 → scan View (fileOf ls) ≡ Lines (length ls)
 unfolding limitOf
 fresh-scan ls form few = scan-written View view-of-nodes ls form few
-
-pub fresh-nodes : (ls : List Line) → AllWritable ls → nodes (fileOf ls) ≡ ls
-fresh-nodes ls form = nodes-written ls form
-
-pub file-short : (ls : List Line) → AllWritable ls → length ls ≤ 128 → length (fileOf ls) ≤ 9856
-unfolding longestOf limitOf widestOf
-file-short ls form few = scanned-short View (fileOf ls) (length ls) (fresh-scan ls form few)
 
 -- what is shown fits the output buffer
 pub show-short : (master program : List ℕ) (vs : List Line) → judgedShow master program ≡ gives vs → length (fileOf vs) ≤ 9856

@@ -1,6 +1,6 @@
 -- The fresh view put back returns the master's own bytes.
 use mathlib.Core.Path.{_≡_, refl, sym, ap, subst, _∙_}
-use mathlib.Core.Bool.{Bool, true, false, cond, not, _||_, and-false}
+use mathlib.Core.Bool.{Bool, true, false, cond, not, and-false}
 use mathlib.Core.List.{List, [], _∷_}
 use Prim.Native.Nat.{ℕ, zero, suc}
 use native.Mathlib.Omega.{arith}
@@ -8,18 +8,17 @@ use lib.Dec.{eqb}
 use lib.ListN.{length, take, getD}
 use borrow.Author.Tests.{eq-eqb, eqb-true}
 use Rattle.lines.specs.declared.verdict.Verdict.the-variants.{Fine, Fault}
-use Rattle.lines.specs.Nodes.{untouchedMark, programNumber, isMarked, nodes}
-use Rattle.lines.specs.Nodes.{Node as Line}
+use Rattle.lines.specs.Nodes.{Line, untouchedMark, programNumber, isMarked, nodes, noLine}
 use Rattle.lines.specs.Masters.{unmarked}
 use Rattle.lines.specs.Verdicts.{firstFrom, earlier}
 use Rattle.lines.specs.Views.{sameHead, sameLine, differenceFrom, firstDifference, programMarked, programMark}
 use Rattle.lines.specs.Writing.{fileOf, putAt}
-use Rattle.values.specs.Values.{Origin, Value}
-use Rattle.values.specs.Values.{master as ofMaster, program as ofProgram}
+use Rattle.lines.specs.Theorems.Bools.{or-right}
+use Rattle.values.specs.Values.{Value}
 use Rattle.values.specs.Theorems.MergeLaws.{sameText-refl}
 use Rattle.runs.specs.Results.{gives}
-use Rattle.runs.specs.Grounds.{Numbered, numberedFrom, noLine, shownLine, oneMaster, view}
-use Rattle.runs.specs.Theorems.FreshView.{Unmarked, one-unmarked, one-fresh}
+use Rattle.runs.specs.Grounds.{numberedFrom, shownLine, oneMaster, view}
+use Rattle.runs.specs.Theorems.FreshView.{Unmarked, fresh-mark, one-unmarked, one-fresh}
 use Rattle.runs.specs.Theorems.Inversion.{gives-inj}
 use Rattle.calls.specs.Judging.{ran, masterRule, judgedMaster, judgedShow, judgedPutBack}
 use Rattle.calls.specs.Outcomes.{outcome, enough, cleared, settled, called, showCall, putBackCall}
@@ -31,11 +30,9 @@ use Rattle.calls.specs.Theorems.FreshLines.{fresh-writable, fresh-few, l
 
 same-line : (l : Line) → sameLine l l ≡ true
 unfolding sameLine sameHead
-same-line l = rw (eq-eqb (l .depth) (l .depth) refl, eq-eqb (l .kind) (l .kind) refl, eq-eqb (l .number) (l .number) refl, sameText-refl (l .text), or-true (eqb (l .mark) 1))
-  where
-    or-true : (b : Bool) → (b || true) ≡ true
-    or-true true = refl
-    or-true false = refl
+same-line l =
+    let text = or-right (eqb (l .mark) 1) true refl in
+    rw (eq-eqb (l .depth) (l .depth) refl, eq-eqb (l .kind) (l .kind) refl, eq-eqb (l .number) (l .number) refl, sameText-refl (l .text), text)
 
 no-difference : (k : ℕ) (ls : List Line) → differenceFrom k ls ls ≡ Fine
 unfolding differenceFrom
@@ -55,14 +52,9 @@ none-marked k (l ∷ ls) h i = go (eqb (l .mark) untouchedMark) refl h i (λ q. 
     go true e q (suc i) ih = ih q i
     go false e q i ih = absurd (let z : _≡_ {A = ℕ} 0 1 = cc in omega arith)
 
-unmarked-at : (ls : List Line) → unmarked ls ≡ Fine → (i : ℕ) → (getD ls i noLine) .mark ≡ untouchedMark
+pub unmarked-at : (ls : List Line) → unmarked ls ≡ Fine → (i : ℕ) → (getD ls i noLine) .mark ≡ untouchedMark
 unfolding unmarked
 unmarked-at ls h = none-marked 0 ls h
-
-shown-mark : (ls : List Numbered) → Unmarked ls → (d : ℕ) (x : Origin) → (shownLine ls d x) .mark ≡ untouchedMark
-unfolding shownLine
-shown-mark ls u d (ofMaster n) = u n
-shown-mark ls u d (ofProgram e b t) = refl
 
 untouched-line : (l : Line) → l .mark ≡ untouchedMark → programMarked l ≡ false
 unfolding programMarked isMarked
@@ -72,7 +64,7 @@ no-program-mark : (ls : List Line) → Unmarked (numberedFrom 0 ls) → (k : ℕ
 unfolding firstFrom view
 no-program-mark ls u k [] = refl
 no-program-mark ls u k (x ∷ v) =
-    rw (untouched-line (shownLine (numberedFrom 0 ls) (x .depth) (x .origin)) (shown-mark (numberedFrom 0 ls) u (x .depth) (x .origin))) (no-program-mark ls u (suc k) v)
+    rw (untouched-line (shownLine (numberedFrom 0 ls) (x .depth) (x .origin)) (fresh-mark (numberedFrom 0 ls) u (x .depth) (x .origin))) (no-program-mark ls u (suc k) v)
 
 -- ## The theorem, on the lines judged
 
@@ -115,7 +107,7 @@ pub fresh-view-returns : (master program out work : List ℕ) (place n : ℕ) (o
     → putBackCall master program (take n out′) out₂ work₂ ≡ outcome 0 0 (length master) (putAt out₂ 0 master) (cleared work₂)
 unfolding showCall putBackCall
 fresh-view-returns master program out work place n out′ work′ none h out₂ work₂ room =
-    done-lines (judgedShow master program) (show-refusals master program) out work place n out′ work′ h λ vs judged file.
+    done-lines 7 (judgedShow master program) (show-refusals master program) out work place n out′ work′ h λ vs judged file.
     let s = show-passed master program vs judged in
     let m = master-passed false master (s .ls) (s .master-judged) in
     let put = unmarked-passes master (s .ls) (s .master-judged) (rw (m .holds .lines) at none) in

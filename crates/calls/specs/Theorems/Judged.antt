@@ -12,19 +12,20 @@ use Rattle.lines.specs.declared.scan.Scan.the-variants.{Lines, Wrong}
 use Rattle.lines.specs.declared.verdict.Verdict.{Verdict}
 use Rattle.lines.specs.declared.verdict.Verdict.the-variants.{Fine, Fault}
 use Rattle.lines.specs.declared.scan.File.{File}
-use Rattle.lines.specs.Files.{scan, limitOf, taken}
+use Rattle.lines.specs.Files.{scan, limitOf}
 use Rattle.lines.specs.Hex.{decode}
 use Rattle.lines.specs.Lines.{cut}
-use Rattle.lines.specs.Nodes.{nodeOf, nodes}
-use Rattle.lines.specs.Nodes.{Node as Line}
+use Rattle.lines.specs.Nodes.{Line, nodeOf, nodes}
 use Rattle.lines.specs.Entries.{entries}
 use Rattle.lines.specs.Masters.{masterBounds, unmarked}
 use Rattle.lines.specs.Verdicts.{reply, earlier}
 use Rattle.lines.specs.Views.{firstDifference, programMark}
-use Rattle.lines.specs.Writing.{AllWritable, fileOf}
+use Rattle.lines.specs.Writing.{fileOf}
 use Rattle.lines.specs.Theorems.Reading.{scan-count}
 use Rattle.lines.specs.Theorems.RoundTrip.{OfNodes, master-of-nodes, view-of-nodes, scan-written, rewrite-file, nodes-writable, nodes-written}
 use Rattle.lines.specs.Theorems.Widths.{scan-few}
+use Rattle.lines.specs.Engine.Starts.{taken}
+use Rattle.lines.specs.Engine.Writes.{AllWritable}
 use Rattle.runs.specs.declared.stop.Stop.{Stop}
 use Rattle.runs.specs.Results.{Result, gives, stops, _>>_, stopNumber, stopEntry}
 use Rattle.runs.specs.Programs.{Transformation}

@@ -15,7 +15,7 @@ use Rattle.runs.specs.Reading.{noEntry}
 use Rattle.runs.specs.Showing.{Single, Slots, valueIn, Shown, shown, oneElement, inTurn, show, test}
 use Rattle.runs.specs.Theorems.Combinators.{Run, Asking, contentsRun, withinRun, thenRun, branchRun, chooseRun, bound}
 use Rattle.runs.specs.Theorems.Inversion.{on-gives, on-bind, on-element, on-bounded, on-turn}
-use Rattle.runs.specs.Trees.{Stands}
+use Rattle.runs.specs.Engine.Trees.{Stands}
 
 module _ (P : Origin → Type 0) where
   -- ## Every node of a value

@@ -11,7 +11,7 @@ use Rattle.lines.specs.declared.scan.File.the-variants.{Program, Master, View}
 use Rattle.lines.specs.declared.scan.Scan.{Scan}
 use Rattle.lines.specs.declared.scan.Scan.the-variants.{Lines, Wrong}
 use Rattle.lines.specs.Files.{limitOf, widestOf, longestOf, scan}
-use Rattle.lines.specs.Nodes.{Node as Line}
+use Rattle.lines.specs.Nodes.{Line}
 use Rattle.lines.specs.Theorems.Widths.{scanned-short}
 use Rattle.lines.specs.Theorems.LongFiles.{cut-long}
 use Rattle.runs.specs.Grounds.{oneMaster, showing, view}

@@ -3,25 +3,24 @@ use mathlib.Core.Path.{_≡_, refl, sym, subst}
 use mathlib.Core.Bool.{true, false}
 use mathlib.Core.List.{List}
 use mathlib.Core.Logic.{_↔_}
-use Prim.Native.Nat.{ℕ, _+_, _*_, _≤_}
-use native.Mathlib.Nat.{zero-add}
+use Prim.Native.Nat.{ℕ, _≤_}
 use native.Mathlib.Omega.{arith}
 use lib.Dec.{leb}
 use lib.ListN.{length, take, drop, replicate, length-replicate}
 use borrow.Author.Tests.{leb-true}
-use Rattle.lines.specs.Nodes.{Node as Line}
+use Rattle.lines.specs.Nodes.{Line}
 use Rattle.lines.specs.Writing.{fileOf, putAt}
 use Rattle.lines.specs.Theorems.Bools.{and-left, and-right}
-use Rattle.values.specs.Theorems.Extents.{length-put, put-behind}
+use Rattle.lines.specs.Theorems.PutAt.{length-put, put-front, front-behind}
 use Rattle.runs.specs.Results.{gives}
 use Rattle.calls.specs.Judging.{Judged, judgedShow, judgedPutBack}
-use Rattle.calls.specs.Outcomes.{Outcome, outcome, outRoom, workRoom, enough, cleared, called, showCall, putBackCall, packed, inOne, ownWork, showInC, putBackInC}
-use Rattle.calls.specs.Theorems.Replies.{Refusing, Refusal, show-refusals, put-back-refusals, by-outcome, put-front}
+use Rattle.calls.specs.Outcomes.{Outcome, outcome, outRoom, workRoom, enough, cleared, called, showCall, putBackCall}
+use Rattle.calls.specs.Theorems.Replies.{Refusing, Refusal, show-refusals, put-back-refusals, by-outcome}
 use Rattle.calls.specs.Theorems.FreshLines.{show-short}
 use Rattle.calls.specs.Theorems.Returned.{put-back-short}
 
 pub record Left (out work : List ℕ) (number n : ℕ) (out′ work′ : List ℕ) : Type 0 where
-  -- "1: output buffer or work slice too short", exactly then
+  -- 1: "output buffer or work slice too short", exactly then
   pub room : (number ≡ 1) ↔ (enough out work ≡ false)
   -- "On all others it is untouched"
   pub refused-out : (number ≡ 0 → ⊥) → out′ ≡ out
@@ -40,12 +39,6 @@ pub record Left (out work : List ℕ) (number n : ℕ) (out′ work′ : List �
 
 -- ## The slices
 
-behind-put : (w new : List ℕ) → length new ≤ length w → drop (length new) (putAt w 0 new) ≡ drop (length new) w
-behind-put w new fits = rw zero-add at (put-behind w 0 new (omega arith))
-
-long-put : (w new : List ℕ) → length new ≤ length w → length (putAt w 0 new) ≡ length w
-long-put w new fits = length-put w 0 new (omega arith)
-
 -- zeros of any number
 module _ (k : ℕ) (w : List ℕ) (fits : k ≤ length w) where
   many : length {A = ℕ} (replicate k 0) ≡ k
@@ -56,19 +49,20 @@ module _ (k : ℕ) (w : List ℕ) (fits : k ≤ length w) where
 
   zeros-beyond : drop k (putAt w 0 (replicate k 0)) ≡ drop k w
   zeros-beyond =
-      subst (λ (m : ℕ). drop m (putAt w 0 (replicate k 0)) ≡ drop m w) many (behind-put w (replicate k 0) (omega (arith, many)))
+      subst (λ (m : ℕ). drop m (putAt w 0 (replicate k 0)) ≡ drop m w) many (front-behind w (replicate k 0))
 
   zeros-long : length (putAt w 0 (replicate k 0)) ≡ length w
-  zeros-long = long-put w (replicate k 0) (omega (arith, many))
+  zeros-long = length-put w 0 (replicate k 0) (omega (arith, many))
 
 enough-rooms : (out work : List ℕ) → enough out work ≡ true → (outRoom ≤ length out) × (workRoom ≤ length work)
 unfolding enough
 enough-rooms out work h =
     (leb-true outRoom (length out) (and-left (leb outRoom (length out)) _ h), leb-true workRoom (length work) (and-right (leb outRoom (length out)) _ h))
 
--- ## Any judging whose refusals have the numbers 2 to 11 and whose lines fit
+-- ## Any judging whose refusals have the numbers from 2 on and whose lines fit
 
-module _ (judged : Judged (List Line)) (refusals : Refusing Refusal judged) (short : (ls : List Line) → judged ≡ gives ls → length (fileOf ls) ≤ outRoom) (out work : List ℕ) where
+module _ (most : ℕ) (judged : Judged (List Line)) (refusals : Refusing (Refusal most) judged)
+    (short : (ls : List Line) → judged ≡ gives ls → length (fileOf ls) ≤ outRoom) (out work : List ℕ) where
   abbrev Leaves : Outcome → Type 0
   Leaves (outcome number place n out′ work′) = Left out work number n out′ work′
 
@@ -109,8 +103,8 @@ module _ (judged : Judged (List Line)) (refusals : Refusing Refusal judged) (sho
         room = ((λ one. absurd (omega arith)), λ none. absurd (both room none));
         refused-out = λ not. absurd (not refl);
         refused-length = λ not. absurd (not refl);
-        behind = behind-put out (fileOf ls) (omega arith);
-        out-long = long-put out (fileOf ls) (omega arith);
+        behind = front-behind out (fileOf ls);
+        out-long = length-put out 0 (fileOf ls) (omega arith);
         zeros = λ _. zeros-front workRoom work (e .1);
         beyond = zeros-beyond workRoom work (e .1);
         work-long = zeros-long workRoom work (e .1);
@@ -120,16 +114,6 @@ module _ (judged : Judged (List Line)) (refusals : Refusing Refusal judged) (sho
       both : enough out work ≡ true → enough out work ≡ false → ⊥
       both t f = let z : _≡_ {A = ℕ} 0 1 = cc in omega arith
 
-  -- only 0 is packed into less than 2^32
-  left-packed : (answer : ℕ) (out′ : List ℕ) → packed answer out′ ≡ inOne (called judged out work) → 0x100000000 ≤ answer → out′ ≡ out
-  unfolding inOne
-  left-packed answer out′ =
-      by-outcome (λ z. packed answer out′ ≡ inOne z → 0x100000000 ≤ answer → out′ ≡ out) judged out work (λ _ h _. cc) (λ r _ j h _. cc)
-      (λ ls _ j h large.
-      let fits = short ls j in
-      let is : answer ≡ 0 * 0x100000000 + 0 * 0x10000 + length (fileOf ls) = cc in
-      absurd (omega arith))
-
   left : (number place n : ℕ) (out′ work′ : List ℕ) → outcome number place n out′ work′ ≡ called judged out work → Left out work number n out′ work′
   left number place n out′ work′ h = subst Leaves (sym h) leaves
 
@@ -138,13 +122,13 @@ module _ (judged : Judged (List Line)) (refusals : Refusing Refusal judged) (sho
 pub show-leaves : (master program out work : List ℕ) (number place n : ℕ) (out′ work′ : List ℕ)
     → outcome number place n out′ work′ ≡ showCall master program out work → Left out work number n out′ work′
 unfolding showCall
-show-leaves master program out work = left (judgedShow master program) (show-refusals master program) (show-short master program) out work
+show-leaves master program out work = left 7 (judgedShow master program) (show-refusals master program) (show-short master program) out work
 
 pub put-back-leaves : (master program edited out work : List ℕ) (number place n : ℕ) (out′ work′ : List ℕ)
     → outcome number place n out′ work′ ≡ putBackCall master program edited out work → Left out work number n out′ work′
 unfolding putBackCall
 put-back-leaves master program edited out work =
-    left (judgedPutBack master program edited) (put-back-refusals master program edited) (put-back-short master program edited) out work
+    left 11 (judgedPutBack master program edited) (put-back-refusals master program edited) (put-back-short master program edited) out work
 
 -- on every reply but 0 the output is untouched
 pub show-refused : (master program out work : List ℕ) (number place n : ℕ) (out′ work′ : List ℕ)
@@ -154,15 +138,3 @@ show-refused master program out work number place n out′ work′ h = (show-lea
 pub put-back-refused : (master program edited out work : List ℕ) (number place n : ℕ) (out′ work′ : List ℕ)
     → outcome number place n out′ work′ ≡ putBackCall master program edited out work → (number ≡ 0 → ⊥) → out′ ≡ out
 put-back-refused master program edited out work number place n out′ work′ h = (put-back-leaves master program edited out work number place n out′ work′ h) .refused-out
-
--- ## Their forms for C
-
-pub show-in-C-refused : (master program out : List ℕ) (answer : ℕ) (out′ : List ℕ) → packed answer out′ ≡ showInC master program out → 0x100000000 ≤ answer → out′ ≡ out
-unfolding showInC showCall
-show-in-C-refused master program out = left-packed (judgedShow master program) (show-refusals master program) (show-short master program) out ownWork
-
-pub put-back-in-C-refused : (master program edited out : List ℕ) (answer : ℕ) (out′ : List ℕ) → packed answer out′ ≡ putBackInC master program edited out
-    → 0x100000000 ≤ answer → out′ ≡ out
-unfolding putBackInC putBackCall
-put-back-in-C-refused master program edited out =
-    left-packed (judgedPutBack master program edited) (put-back-refusals master program edited) (put-back-short master program edited) out ownWork

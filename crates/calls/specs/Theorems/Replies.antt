@@ -1,23 +1,22 @@
 -- An outcome by its three ways: no room, refused, done. And which numbers a refusal has.
-use mathlib.Core.Path.{_≡_, refl, subst, _∙_}
+use mathlib.Core.Path.{_≡_, refl, subst}
 use mathlib.Core.Bool.{Bool, true, false, cond}
 use mathlib.Core.List.{List}
-use Prim.Native.Nat.{ℕ, _+_, _≤_}
+use Prim.Native.Nat.{ℕ, _≤_}
 use native.Mathlib.Omega.{arith}
-use lib.ListN.{length, take, drop}
-use lib.Seq.{take-append-le, take-all}
+use lib.ListN.{length, take}
 use Rattle.lines.specs.declared.scan.File.the-variants.{Program, Master, View}
 use Rattle.lines.specs.declared.scan.Scan.{Scan}
 use Rattle.lines.specs.declared.scan.Scan.the-variants.{Lines, Wrong}
 use Rattle.lines.specs.declared.verdict.Verdict.{Verdict}
 use Rattle.lines.specs.declared.verdict.Verdict.the-variants.{Fine, Fault}
 use Rattle.lines.specs.Files.{scan}
-use Rattle.lines.specs.Nodes.{nodes}
-use Rattle.lines.specs.Nodes.{Node as Line}
+use Rattle.lines.specs.Nodes.{Line, nodes}
 use Rattle.lines.specs.Entries.{entries}
 use Rattle.lines.specs.Verdicts.{Reply, reply}
 use Rattle.lines.specs.Views.{firstDifference, programMark}
 use Rattle.lines.specs.Writing.{fileOf, putAt}
+use Rattle.lines.specs.Theorems.PutAt.{put-front}
 use Rattle.runs.specs.declared.stop.Stop.{Stop}
 use Rattle.runs.specs.declared.stop.Stop.the-variants.{Source, Size}
 use Rattle.runs.specs.Results.{Result, gives, stops, _>>=_, _>>_, stopNumber, stopEntry}
@@ -35,13 +34,13 @@ abbrev pub Refusing : {A : Type 0} → (ℕ → Type 0) → Judged A → Type 0
 Refusing S judged = (r : Reply) → judged ≡ stops r → S (r .number)
 
 module _ (S : ℕ → Type 0) where
-  gives-refusing : {A : Type 0} (a : A) → Refusing S (gives a)
+  pub gives-refusing : {A : Type 0} (a : A) → Refusing S (gives a)
   gives-refusing a r h = absurd (let z : _≡_ {A = ℕ} 0 1 = cc in omega arith)
 
   stops-refusing : {A : Type 0} (k place : ℕ) → S k → Refusing {A = A} S (stops (reply k place))
   stops-refusing k place s r h = subst (λ (z : Reply). S (z .number)) (let z : reply k place ≡ r = cc in z) s
 
-  bind-refusing : {A B : Type 0} (j : Judged A) (f : A → Judged B) → Refusing S j → ((a : A) → j ≡ gives a → Refusing S (f a)) → Refusing S (j >>= f)
+  pub bind-refusing : {A B : Type 0} (j : Judged A) (f : A → Judged B) → Refusing S j → ((a : A) → j ≡ gives a → Refusing S (f a)) → Refusing S (j >>= f)
   bind-refusing (gives a) f j-refusing f-refusing r h = f-refusing a refl r h
   bind-refusing (stops e) f j-refusing f-refusing r h = subst (λ (z : Reply). S (z .number)) (let z : e ≡ r = cc in z) (j-refusing e refl)
 
@@ -64,13 +63,13 @@ module _ (S : ℕ → Type 0) where
   isTree-refusing k (gives X) s = gives-refusing X
   isTree-refusing k (stops place) s = stops-refusing k place s
 
-  ran-refusing : (x : Result Stop Shown) → S 6 → S 7 → Refusing S (ran x)
+  pub ran-refusing : (x : Result Stop Shown) → S 6 → S 7 → Refusing S (ran x)
   unfolding ran stopNumber
   ran-refusing (gives o) s t = gives-refusing o
   ran-refusing (stops (Source e)) s t = stops-refusing 6 (stopEntry (Source e)) s
   ran-refusing (stops (Size e)) s t = stops-refusing 7 (stopEntry (Size e)) t
 
-  program-refusing : (program : List ℕ) → S 2 → S 3 → Refusing S (judgedProgram program)
+  pub program-refusing : (program : List ℕ) → S 2 → S 3 → Refusing S (judgedProgram program)
   unfolding judgedProgram
   program-refusing program s t =
       after-refusing (formed 2 (scan Program program)) (isTree 3 (readProgram (entries program))) (formed-refusing 2 (scan Program program) s)
@@ -82,14 +81,14 @@ module _ (S : ℕ → Type 0) where
       after-refusing (formed 4 (scan Master master)) _ (formed-refusing 4 (scan Master master) s)
       (after-refusing (keeps 5 (masterRule putting (nodes master))) _ (keeps-refusing 5 (masterRule putting (nodes master)) t) (gives-refusing (nodes master)))
 
-  view-refusing : (fresh : List Line) (edited : List ℕ) → S 8 → S 9 → S 10 → Refusing S (judgedView fresh edited)
+  pub view-refusing : (fresh : List Line) (edited : List ℕ) → S 8 → S 9 → S 10 → Refusing S (judgedView fresh edited)
   unfolding judgedView
   view-refusing fresh edited s t u =
       after-refusing (formed 8 (scan View edited)) _ (formed-refusing 8 (scan View edited) s)
       (after-refusing (keeps 9 (firstDifference (nodes edited) fresh)) _ (keeps-refusing 9 (firstDifference (nodes edited) fresh) t)
       (after-refusing (keeps 10 (programMark (nodes edited))) _ (keeps-refusing 10 (programMark (nodes edited)) u) (gives-refusing (nodes edited))))
 
-  standings-refusing : (G : Ground) (X : Transformation) (es : List Line) → S 11 → Refusing S (judgedStandings G X es)
+  pub standings-refusing : (G : Ground) (X : Transformation) (es : List Line) → S 11 → Refusing S (judgedStandings G X es)
   unfolding judgedStandings
   standings-refusing G X es s =
       after-refusing (keeps 11 (firstClash (standingFor G X es) (G .lines))) _ (keeps-refusing 11 (firstClash (standingFor G X es) (G .lines)) s)
@@ -113,17 +112,21 @@ module _ (S : ℕ → Type 0) where
       bind-refusing (judgedView (view (oneMaster ls) (o .value)) edited) _ (view-refusing (view (oneMaster ls) (o .value)) edited eight nine ten) λ es v.
       standings-refusing (oneMaster ls) X es eleven
 
--- refusals have the numbers 2 to 11
-abbrev pub Refusal : ℕ → Type 0
-Refusal n = (2 ≤ n) × (n ≤ 11)
+-- refusals have the numbers from 2 on
+abbrev pub Refusal : ℕ → ℕ → Type 0
+Refusal most n = (2 ≤ n) × (n ≤ most)
 
-pub show-refusals : (master program : List ℕ) → Refusing Refusal (judgedShow master program)
+-- of showing, 2 to 7
+pub show-refusals : (master program : List ℕ) → Refusing (Refusal 7) (judgedShow master program)
 show-refusals master program =
-    show-refusing Refusal master program (omega arith) (omega arith) (master-refusing Refusal false master (omega arith) (omega arith)) (omega arith) (omega arith)
+    let S = Refusal 7 in
+    show-refusing S master program (omega arith) (omega arith) (master-refusing S false master (omega arith) (omega arith)) (omega arith) (omega arith)
 
-pub put-back-refusals : (master program edited : List ℕ) → Refusing Refusal (judgedPutBack master program edited)
+-- of putting back, 2 to 11
+pub put-back-refusals : (master program edited : List ℕ) → Refusing (Refusal 11) (judgedPutBack master program edited)
 put-back-refusals master program edited =
-    put-back-refusing Refusal master program edited (omega arith) (omega arith) (master-refusing Refusal true master (omega arith) (omega arith)) (omega arith) (omega arith)
+    let S = Refusal 11 in
+    put-back-refusing S master program edited (omega arith) (omega arith) (master-refusing S true master (omega arith) (omega arith)) (omega arith) (omega arith)
     (omega arith) (omega arith) (omega arith) (omega arith)
 
 -- ## Outcomes
@@ -146,15 +149,10 @@ by-outcome P judged out work none refused done = go judged (enough out work) ref
     go (stops r) true refused done none = refused r refl refl
     go judged false refused done none = none refl
 
--- the lines stand at the front of the output
-pub put-front : (out file : List ℕ) → take (length file) (putAt out 0 file) ≡ file
-unfolding putAt
-put-front out file = take-append-le (length file) file (drop (0 + length file) out) (omega arith) ∙ take-all (length file) file (omega arith)
-
 -- 0 is answered where the judging was passed, and the output begins with the lines
-pub done-lines : {C : Type 0} (judged : Judged (List Line)) → Refusing Refusal judged → (out work : List ℕ) (place n : ℕ) (out′ work′ : List ℕ)
+pub done-lines : {C : Type 0} (most : ℕ) (judged : Judged (List Line)) → Refusing (Refusal most) judged → (out work : List ℕ) (place n : ℕ) (out′ work′ : List ℕ)
     → called judged out work ≡ outcome 0 place n out′ work′ → ((ls : List Line) → judged ≡ gives ls → take n out′ ≡ fileOf ls → C) → C
-done-lines {C = C} judged refusals out work place n out′ work′ =
+done-lines {C = C} most judged refusals out work place n out′ work′ =
     by-outcome (λ z. z ≡ outcome 0 place n out′ work′ → ((ls : List Line) → judged ≡ gives ls → take n out′ ≡ fileOf ls → C) → C) judged out work
     (λ _ h k. absurd (let z : _≡_ {A = ℕ} 1 0 = cc in omega arith))
     (λ r _ j h k. let s = refusals r j in absurd (let z : r .number ≡ 0 = cc in omega arith))

@@ -6,14 +6,18 @@ use Prim.Native.Nat.{ℕ, _≤_, _<_}
 use native.Mathlib.Omega.{arith}
 use lib.ListN.{length, take, getD}
 use Rattle.lines.specs.declared.verdict.Verdict.the-variants.{Fine}
-use Rattle.lines.specs.Nodes.{Node as Line}
+use Rattle.lines.specs.Nodes.{Line, noLine}
 use Rattle.lines.specs.Masters.{masterBounds}
 use Rattle.lines.specs.Views.{firstDifference}
-use Rattle.lines.specs.Writing.{AllWritable, fileOf}
+use Rattle.lines.specs.Writing.{fileOf}
+use Rattle.lines.specs.Theorems.Widths.{file-short}
+use Rattle.lines.specs.Theorems.MasterRules.{bounds-at}
+use Rattle.lines.specs.Theorems.LineRules.{lineRule, Fields, fields-at, all-writable}
+use Rattle.lines.specs.Engine.Writes.{AllWritable}
 use Rattle.runs.specs.Results.{gives}
 use Rattle.runs.specs.Programs.{Transformation}
 use Rattle.runs.specs.Showing.{Shown}
-use Rattle.runs.specs.Grounds.{numberedFrom, noLine, linesIn, oneMaster, showing, view, standingFor, handedBack}
+use Rattle.runs.specs.Grounds.{numberedFrom, linesIn, oneMaster, showing, view, standingFor, handedBack}
 use Rattle.runs.specs.Theorems.Demand3.{Accepted, formed-after}
 use Rattle.runs.specs.Theorems.Inversion.{no-gives}
 use Rattle.runs.specs.Theorems.OneMaster.{one-covered, length-handedBack, one-handedBack, one-bounds}
@@ -22,8 +26,7 @@ use Rattle.calls.specs.Judging.{masterRule, judgedMaster, judgedStanding
 use Rattle.calls.specs.Outcomes.{outcome, showCall, putBackCall}
 use Rattle.calls.specs.Theorems.Judged.{standings-passed, master-passed, view-passed, put-back-passed, master-passes}
 use Rattle.calls.specs.Theorems.Replies.{Refusing, show-refusing, put-back-refusals, by-outcome, done-lines}
-use Rattle.calls.specs.Theorems.FreshLines.{file-short}
-use Rattle.calls.specs.Theorems.LineRules.{lineRule, Fields, fields-at, fields-of, all-writable, bounds-at}
+use Rattle.calls.specs.Theorems.FreshLines.{fields-of}
 
 -- ## On lines
 
@@ -106,5 +109,5 @@ pub returned-shows : (master program edited out work : List ℕ) (place n : ℕ)
     → (number₂ ≡ 4 → ⊥) × (number₂ ≡ 5 → ⊥)
 unfolding putBackCall
 returned-shows master program edited out work place n out′ work′ h program₂ out₂ work₂ =
-    done-lines (judgedPutBack master program edited) (put-back-refusals master program edited) out work place n out′ work′ h λ hs judged file.
+    done-lines 11 (judgedPutBack master program edited) (put-back-refusals master program edited) out work place n out′ work′ h λ hs judged file.
     neither-called (take n out′) program₂ out₂ work₂ hs (rw file (returned-sound master program edited hs judged))

@@ -9,8 +9,7 @@ use native.Mathlib.Omega.{arith}
 use lib.Dec.{eqb}
 use lib.ListN.{length}
 use borrow.Author.Tests.{eq-eqb, ne-eqb}
-use Rattle.lines.specs.Nodes.{untouchedMark, programNumber}
-use Rattle.lines.specs.Nodes.{Node as Line}
+use Rattle.lines.specs.Nodes.{Line, programNumber, lineAt}
 use Rattle.values.specs.Values.{Origin, master, program, Value, among, isFrom}
 use Rattle.values.specs.Standings.{Standing, untouched, locked, deleted, sort, newText, isUntouched, isClash, sameStanding, _⋓_, allOver, gathered, handsBack}
 use Rattle.values.specs.Theorems.MergeLaws.{unit-left, no-clash-left}
@@ -22,9 +21,8 @@ use Rattle.runs.specs.Programs.{Transformation}
 use Rattle.runs.specs.Showing.{Shown}
 use Rattle.runs.specs.Grounds.{Numbered, numberedFrom, lineOf, Ground, oneMaster, showing, shownLine, view, standing, handedBack}
 use Rattle.runs.specs.Theorems.Conservation.{lock}
-use Rattle.runs.specs.Theorems.FreshView.{Unmarked}
 use Rattle.runs.specs.Theorems.Grounded.{hasLine, Covered, absent-gathered, absent-slots}
-use Rattle.runs.specs.Theorems.Demand3.{lineAt, standing-is}
+use Rattle.runs.specs.Theorems.Demand3.{standing-is}
 use Rattle.runs.specs.Theorems.OneMaster.{one-covered, one-line}
 
 -- ## One master's numbers are places
@@ -101,17 +99,6 @@ shown-number ls X o shows few n i c e =
     let q = uncovered (oneMaster ls) X o shows (one-covered ls) n (none-beyond 0 ls n (omega arith)) i in
     let z : _≡_ {A = ℕ} 0 1 = cc in
     omega arith
-
--- over lines without a mark no line of a view has one
-pub view-unmarked : (G : Ground) → Unmarked (G .lines) → (v : Value) (i : ℕ) → (lineAt (view G v) i) .mark ≡ untouchedMark
-unfolding view shownLine
-view-unmarked G u [] i = refl
-view-unmarked G u (x ∷ v) zero = go (x .origin)
-  where
-    go : (y : Origin) → (shownLine (G .lines) (x .depth) y) .mark ≡ untouchedMark
-    go (master n) = u n
-    go (program e b t) = refl
-view-unmarked G u (x ∷ v) (suc i) = view-unmarked G u v i
 
 -- ## Lines handed back keep their kinds
 

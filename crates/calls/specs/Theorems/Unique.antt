@@ -2,7 +2,7 @@
 use mathlib.Core.Path.{_≡_, sym, _∙_}
 use mathlib.Core.List.{List}
 use Prim.Native.Nat.{ℕ}
-use Rattle.calls.specs.Outcomes.{Outcome, outcome, showCall, putBackCall, PackedOutcome, packed, showInC, putBackInC}
+use Rattle.calls.specs.Outcomes.{Outcome, outcome, showCall, putBackCall}
 
 -- number, place, length, output buffer and work slice alike
 pub record Same (number₁ place₁ length₁ : ℕ) (out₁ work₁ : List ℕ) (number₂ place₂ length₂ : ℕ) (out₂ work₂ : List ℕ) : Type 0 where
@@ -20,12 +20,6 @@ same-outcome wanted number₁ place₁ length₁ out₁ work₁ number₂ place�
     let e = g ∙ sym h in
     record { number = cc; place = cc; length = cc; out = cc; work = cc }
 
-same-packed : (wanted : PackedOutcome) (answer₁ : ℕ) (out₁ : List ℕ) (answer₂ : ℕ) (out₂ : List ℕ)
-    → packed answer₁ out₁ ≡ wanted → packed answer₂ out₂ ≡ wanted → (answer₁ ≡ answer₂) × (out₁ ≡ out₂)
-same-packed wanted answer₁ out₁ answer₂ out₂ g h =
-    let e = g ∙ sym h in
-    (cc, cc)
-
 -- ## The calls
 
 pub show-unique : (master program out work : List ℕ) (number₁ place₁ length₁ : ℕ) (out₁ work₁ : List ℕ) (number₂ place₂ length₂ : ℕ) (out₂ work₂ : List ℕ)
@@ -39,13 +33,3 @@ pub put-back-unique : (master program edited out work : List ℕ) (number₁ pla
     → outcome number₂ place₂ length₂ out₂ work₂ ≡ putBackCall master program edited out work
     → Same number₁ place₁ length₁ out₁ work₁ number₂ place₂ length₂ out₂ work₂
 put-back-unique master program edited out work = same-outcome (putBackCall master program edited out work)
-
--- ## Their forms for C
-
-pub show-in-C-unique : (master program out : List ℕ) (answer₁ : ℕ) (out₁ : List ℕ) (answer₂ : ℕ) (out₂ : List ℕ)
-    → packed answer₁ out₁ ≡ showInC master program out → packed answer₂ out₂ ≡ showInC master program out → (answer₁ ≡ answer₂) × (out₁ ≡ out₂)
-show-in-C-unique master program out = same-packed (showInC master program out)
-
-pub put-back-in-C-unique : (master program edited out : List ℕ) (answer₁ : ℕ) (out₁ : List ℕ) (answer₂ : ℕ) (out₂ : List ℕ)
-    → packed answer₁ out₁ ≡ putBackInC master program edited out → packed answer₂ out₂ ≡ putBackInC master program edited out → (answer₁ ≡ answer₂) × (out₁ ≡ out₂)
-put-back-in-C-unique master program edited out = same-packed (putBackInC master program edited out)

@@ -8,15 +8,13 @@ use lib.Dec.{eqb}
 use lib.ListN.{length, getD}
 use borrow.Author.Tests.{eqb-true, eqb-false, eq-eqb, ne-eqb, not-false}
 use Rattle.lines.specs.declared.verdict.Verdict.the-variants.{Fine, Fault}
-use Rattle.lines.specs.Nodes.{untouchedMark, changedMark, programNumber, isMarked}
-use Rattle.lines.specs.Nodes.{Node as Line}
+use Rattle.lines.specs.Nodes.{Line, untouchedMark, changedMark, programNumber, isMarked, lineAt}
 use Rattle.lines.specs.Texts.{sameText}
 use Rattle.lines.specs.Verdicts.{firstFrom}
 use Rattle.lines.specs.Views.{sameHead, sameLine, differenceFrom, firstDifference, programMarked, programMark}
-use Rattle.values.specs.Theorems.Bools.{and-parts, or-other}
+use Rattle.lines.specs.Theorems.Bools.{and-parts, or-other}
 use Rattle.values.specs.Theorems.MergeLaws.{sameText-sound, sameText-refl}
-use Rattle.runs.specs.Theorems.Demand3.{lineAt}
-use Rattle.calls.specs.Theorems.Demands.{FromProgram, OnlyEdits}
+use Rattle.calls.specs.Demands.{FromProgram, OnlyEdits}
 
 -- ## No fault from a line on: none at any place, what stands for a missing one counted
 
@@ -65,7 +63,7 @@ pub record Alike (e f : Line) : Type 0 where
   pub number : e .number ≡ f .number
   pub text : (e .mark ≡ changedMark → ⊥) → e .text ≡ f .text
 
-same-alike : (e f : Line) → sameLine e f ≡ true → Alike e f
+pub same-alike : (e f : Line) → sameLine e f ≡ true → Alike e f
 unfolding sameLine sameHead
 same-alike e f h =
     let s = and-parts (sameHead e f) (eqb (e .mark) changedMark || sameText (e .text) (f .text)) h in

@@ -1,16 +1,17 @@
 -- A file cut into lines: the first line, the lines behind it, and where each begins.
-use mathlib.Core.Path.{_≡_, refl, sym, _∙_, ap, subst}
+use mathlib.Core.Path.{_≡_, refl, _∙_, ap, subst}
 use mathlib.Core.Bool.{Bool, true, false, cond}
 use mathlib.Core.List.{List, [], _∷_, _++_}
-use Prim.Native.Nat.{ℕ, zero, suc, _+_, _-_, _≤_, _<_}
-use native.Mathlib.Nat.{not-suc-le-zero, le-of-suc-le-suc}
+use Prim.Native.Nat.{ℕ, suc, _+_, _-_, _≤_, _<_}
+use native.Mathlib.Nat.{not-suc-le-zero}
 use native.Mathlib.Omega.{arith}
 use lib.Dec.{eqb, ltb}
 use lib.ListN.{length, getD, take, drop, length-drop, drop-of-length-le}
 use lib.Seq.{drop-drop, length-take-le}
 use borrow.Author.Tests.{eq-eqb, ne-eqb, ltb-true, ltb-false}
-use Rattle.lines.specs.Lines.{lineLength, push, cut, startsFrom, starts}
+use Rattle.lines.specs.Lines.{push, cut}
 use Rattle.lines.specs.Theorems.Lists.{drop-one}
+use Rattle.lines.specs.Engine.Starts.{lineLength, startsFrom}
 
 -- the first line is the first lineLength bytes, and the others are cut from what is behind
 pub cut-first : (s : List ℕ) → 0 < length s → cut s ≡ take (lineLength s) s ∷ cut (drop (lineLength s) s)

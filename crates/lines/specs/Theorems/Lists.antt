@@ -1,13 +1,13 @@
 -- Lists in the code's terms (i + 1, i + 2), and tests computed over a whole table.
-use mathlib.Core.Path.{_≡_, refl, sym, _∙_, ap, subst}
-use mathlib.Core.Bool.{Bool, true, false, _&&_}
-use mathlib.Core.List.{List, [], _∷_}
-use Prim.Native.Nat.{ℕ, zero, suc, _+_, _-_, _≤_, _<_}
+use mathlib.Core.Path.{_≡_, refl, _∙_, ap, subst}
+use mathlib.Core.Bool.{Bool, true, _&&_}
+use mathlib.Core.List.{List, [], _∷_, map}
+use Prim.Native.Nat.{ℕ, zero, suc, _+_, _-_, _<_}
 use native.Mathlib.Nat.{not-suc-le-zero, le-of-suc-le-suc}
 use native.Mathlib.Numerals.{add-one, add-two}
 use native.Mathlib.Omega.{arith}
 use lib.Dec.{T}
-use lib.ListN.{length, getD, take, drop, length-drop}
+use lib.ListN.{length, getD, take, drop, length-drop, length-map, List·getD-map}
 use lib.Seq.{drop-cons, take-all}
 use Rattle.lines.specs.Theorems.Bools.{and-left, and-right, is-true}
 
@@ -48,3 +48,7 @@ module _ {A : Type 0} where
   every-at f xs d t k h =
       let z : 0 + k ≡ k = omega arith in
       subst (λ (m : ℕ). f m (getD xs k d) ≡ true) z (every-from f xs d 0 k (is-true (every f 0 xs) t) h)
+
+-- one of the images, whatever stands for those that are missing
+pub map-at : {A B : Type 0} (f : A → B) (l : List A) (i : ℕ) (d : B) (e : A) → i < length l → getD (map f l) i d ≡ f (getD l i e)
+map-at f l i d e h = getD-any (map f l) i d (f e) (omega (arith, length-map l f)) ∙ List·getD-map f l i e

@@ -1,21 +1,21 @@
 -- A file cut behind the longest legal one, by one byte or more, scans as the whole file does: a program need read no further.
-use mathlib.Core.Path.{_≡_, refl, sym, _∙_, ap, subst}
-use mathlib.Core.Bool.{Bool, true, false, cond, _&&_, and-false}
-use mathlib.Core.List.{List, [], _∷_, _++_}
+use mathlib.Core.Path.{_≡_, refl, sym, _∙_, ap}
+use mathlib.Core.Bool.{Bool, true, false, cond, _&&_}
+use mathlib.Core.List.{List, [], _∷_}
 use Prim.Native.Nat.{ℕ, zero, suc, _+_, _*_, _-_, _≤_, _<_}
 use native.Mathlib.Nat.{mul-suc, mul-comm, not-suc-le-zero, le-of-suc-le-suc}
 use native.Mathlib.Omega.{arith}
 use lib.Dec.{eqb, ltb, leb}
-use lib.ListN.{length, take, drop, length-take, length-drop}
+use lib.ListN.{length, take, drop, length-take}
 use lib.Seq.{take-nil, take-take, length-take-le}
-use borrow.Author.Tests.{ltb-true, ltb-false, leb-true, leb-false, lt-ltb}
+use borrow.Author.Tests.{ltb-true, leb-true, leb-false}
 use Rattle.lines.specs.declared.scan.File.{File}
-use Rattle.lines.specs.declared.scan.Scan.{Scan}
-use Rattle.lines.specs.declared.scan.Scan.the-variants.{Lines, Wrong}
-use Rattle.lines.specs.Lines.{lineLength, cut}
+use Rattle.lines.specs.declared.scan.Scan.the-variants.{Wrong}
+use Rattle.lines.specs.Lines.{cut}
 use Rattle.lines.specs.Files.{formOf, limitOf, widestOf, longestOf, scanFrom, scan}
 use Rattle.lines.specs.Theorems.Cutting.{cut-first, first-some, first-within, joined, joined-cut}
-use Rattle.lines.specs.Theorems.Widths.{form-width, scanned-short}
+use Rattle.lines.specs.Theorems.Widths.{form-width}
+use Rattle.lines.specs.Engine.Starts.{lineLength}
 
 -- the first line of a file that was cut: whole, or the whole of what is left
 first-kept : (k : ℕ) (s : List ℕ) → lineLength s ≤ k → lineLength (take k s) ≡ lineLength s

@@ -1,20 +1,21 @@
 -- The bytes that pairs are, and the pairs that bytes are.
 use mathlib.Core.Path.{_≡_, refl, sym, _∙_, ap, ap₂, subst}
-use mathlib.Core.Bool.{Bool, true, false, cond, _&&_, _||_, not}
+use mathlib.Core.Bool.{Bool, true, false, cond, _&&_, not}
 use mathlib.Core.List.{List, [], _∷_, _++_}
 use Prim.Native.Nat.{ℕ, zero, suc, _+_, _*_, _-_, _/_, _%_, _≤_, _<_}
 use native.Mathlib.Nat.{not-suc-le-zero, le-of-suc-le-suc}
 use native.Mathlib.Numerals.{add-one}
 use native.Mathlib.Omega.{arith}
-use lib.Dec.{eqb, leb, ltb}
+use lib.Dec.{eqb, leb}
 use lib.ListN.{length, getD, take, drop, replicate, length-drop}
 use lib.Seq.{getD-take, getD-drop}
-use borrow.Author.Tests.{leb-true, leb-false, le-leb, lt-leb, lt-ltb, le-ltb, eqb-true, ne-eqb}
-use Rattle.lines.specs.Hex.{between, isHex, hexValue, pairAt, decode, hexDigit, encode}
+use borrow.Author.Tests.{leb-true, le-leb, lt-leb, lt-ltb, le-ltb, eqb-true}
+use Rattle.lines.specs.Hex.{between, isHex, hexValue, decode, hexDigit, encode}
 use Rattle.lines.specs.Lines.{pairsThenEnd}
-use Rattle.lines.specs.Writing.{Bytes}
 use Rattle.lines.specs.Theorems.Bools.{never, and-left, and-right, or-cases}
 use Rattle.lines.specs.Theorems.Lists.{drop-two, every-at}
+use Rattle.lines.specs.Engine.Starts.{pairAt}
+use Rattle.lines.specs.Engine.Writes.{Bytes}
 
 -- ## Digits
 

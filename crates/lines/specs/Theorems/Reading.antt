@@ -1,29 +1,29 @@
 -- What is read at the place where a line begins is what the line says: nodes and entries alike.
 use mathlib.Core.Path.{_≡_, refl, sym, _∙_, ap, ap₂, subst}
 use mathlib.Core.Bool.{Bool, true, false, cond, _&&_}
-use mathlib.Core.List.{List, [], _∷_, _++_, map}
+use mathlib.Core.List.{List, [], _∷_, map}
 use Prim.Native.Nat.{ℕ, zero, suc, _+_, _*_, _-_, _≤_, _<_}
 use native.Mathlib.Nat.{not-suc-le-zero, le-of-suc-le-suc}
 use native.Mathlib.Omega.{arith}
 use lib.Dec.{eqb, leb, ltb}
 use lib.ListN.{length, getD, take, drop, length-drop}
-use lib.Seq.{length-take-le, take-append-le, take-take, take-all, drop-cons, getD-drop, ext-getD}
-use borrow.Author.Tests.{leb-true, eqb-true, ltb-true}
+use lib.Seq.{length-take-le, take-append-le, take-take, take-all, getD-drop, ext-getD}
+use borrow.Author.Tests.{leb-true, eqb-true}
 use Rattle.lines.specs.declared.scan.File.{File}
 use Rattle.lines.specs.declared.scan.File.the-variants.{Program, Master, View}
 use Rattle.lines.specs.declared.scan.Scan.{Scan}
 use Rattle.lines.specs.declared.scan.Scan.the-variants.{Lines, Wrong}
 use Rattle.lines.specs.declared.table.Shape.{Shape}
 use Rattle.lines.specs.declared.table.Shape.the-variants.{Nothing, Text, Tag, Slot, Missing}
-use Rattle.lines.specs.Hex.{pairAt, decode}
-use Rattle.lines.specs.Lines.{lineLength, cut, startsFrom, starts, pairsThenEnd, isLine}
-use Rattle.lines.specs.Texts.{bytesFrom, textAt}
-use Rattle.lines.specs.Nodes.{Node, isTag, kindRule, nodeForm, nodeLine, nodeOf, nodes, nodeAt}
-use Rattle.lines.specs.Entries.{Entry, textForm, operandForm, operandAt, entryForm, entryLine, entryOf, entries, entryAt, rowOf}
-use Rattle.lines.specs.Files.{formOf, limitOf, scanFrom, scan, taken, Scanned}
+use Rattle.lines.specs.Hex.{decode}
+use Rattle.lines.specs.Lines.{cut, pairsThenEnd, isLine}
+use Rattle.lines.specs.Nodes.{nodeForm, nodeLine, nodeOf, nodes}
+use Rattle.lines.specs.Entries.{textForm, operandForm, entryForm, entryLine, entryOf, entries, rowOf}
+use Rattle.lines.specs.Files.{formOf, limitOf, scanFrom, scan}
 use Rattle.lines.specs.Theorems.Bools.{never, and-left, and-right}
 use Rattle.lines.specs.Theorems.Pairs.{getD-decode, pair-part, line-length}
 use Rattle.lines.specs.Theorems.Cutting.{cut-at, line-inside, end-within, end-beyond, line-long, length-starts}
+use Rattle.lines.specs.Engine.Starts.{pairAt, lineLength, startsFrom, starts, bytesFrom, textAt, nodeAt, linesOf, operandAt, entryAt, entriesOf, Scanned}
 
 pub length-bytes : (s : List ℕ) (p k : ℕ) → length (bytesFrom s p k) ≡ k
 unfolding bytesFrom
@@ -179,15 +179,15 @@ module _ {A : Type 0} (form : List ℕ → Bool) (limit : ℕ) (said : List ℕ 
 
 -- ## The theorems
 
-pub reads-master : (s : List ℕ) (n : ℕ) → scan Master s ≡ Lines n → map (nodeAt s) (starts s) ≡ nodes s
+pub reads-master : (s : List ℕ) (n : ℕ) → scan Master s ≡ Lines n → linesOf s (starts s) ≡ nodes s
 unfolding scan formOf starts nodes
 reads-master s n e = reads-from nodeLine (limitOf Master) nodeOf nodeAt node-here s (cut s) 0 0 n refl e
 
-pub reads-view : (s : List ℕ) (n : ℕ) → scan View s ≡ Lines n → map (nodeAt s) (starts s) ≡ nodes s
+pub reads-view : (s : List ℕ) (n : ℕ) → scan View s ≡ Lines n → linesOf s (starts s) ≡ nodes s
 unfolding scan formOf starts nodes
 reads-view s n e = reads-from nodeLine (limitOf View) nodeOf nodeAt node-here s (cut s) 0 0 n refl e
 
-pub reads-program : (s : List ℕ) (n : ℕ) → scan Program s ≡ Lines n → map (entryAt s) (starts s) ≡ entries s
+pub reads-program : (s : List ℕ) (n : ℕ) → scan Program s ≡ Lines n → entriesOf s (starts s) ≡ entries s
 unfolding scan formOf starts entries
 reads-program s n e = reads-from entryLine (limitOf Program) entryOf entryAt entry-here s (cut s) 0 0 n refl e
 
@@ -213,3 +213,14 @@ noted-starts file s before noted n r =
     let l = length-starts 0 (cut s) in
     rw (r .places) (take-append-le n (take n (starts s)) (drop n before) (omega (arith, length-take-le n (starts s) (omega arith)))
     ∙ (take-take n n (starts s) (omega arith) ∙ take-all n (starts s) (omega arith)))
+
+-- a scan that took all lines
+pub scanned-whole : {file : File} {s before noted : List ℕ} {r : Scan} → Scanned file s before noted r → (n : ℕ) → r ≡ Lines n → Scanned file s before noted (Lines n)
+scanned-whole x n e = rw e at x
+
+-- what the lines say, by the places that were noted
+pub said-lines : {A : Type 0} {file : File} (said : List ℕ → List A) (read : List ℕ → ℕ → A)
+    → ((s : List ℕ) (n : ℕ) → scan file s ≡ Lines n → map (read s) (starts s) ≡ said s)
+    → {s before noted : List ℕ} {n : ℕ} → Scanned file s before noted (Lines n) → said s ≡ map (read s) (take n noted)
+said-lines {file = file} said read reads {s} {before} {noted} {n} x =
+    sym (reads s n (sym (x .answer))) ∙ ap (map (read s)) (sym (noted-starts file s before noted n x))

@@ -1,45 +1,44 @@
 -- What is written reads back as what was written, and a good file written again is the same bytes.
 use mathlib.Core.Path.{_≡_, refl, sym, _∙_, ap, ap₂, subst}
 use mathlib.Core.Bool.{Bool, true, false, cond, _&&_}
-use mathlib.Core.List.{List, [], _∷_, _++_, map, append-assoc}
-use Prim.Native.Nat.{ℕ, zero, suc, _+_, _*_, _/_, _%_, _≤_, _<_}
-use native.Mathlib.Nat.{not-suc-le-zero, le-of-suc-le-suc}
+use mathlib.Core.List.{List, [], _∷_, _++_, map}
+use Prim.Native.Nat.{ℕ, suc, _+_, _*_, _/_, _%_, _≤_, _<_}
 use native.Mathlib.Omega.{arith}
 use lib.Dec.{eqb, leb, ltb}
-use lib.ListN.{length, getD, drop, length-append}
+use lib.ListN.{length, getD, length-append}
 use borrow.Author.Tests.{lt-ltb, le-leb, leb-true, eqb-true}
 use Rattle.lines.specs.declared.scan.File.{File}
-use Rattle.lines.specs.declared.scan.File.the-variants.{Program, Master, View}
-use Rattle.lines.specs.declared.scan.Scan.{Scan}
+use Rattle.lines.specs.declared.scan.File.the-variants.{Master, View}
 use Rattle.lines.specs.declared.scan.Scan.the-variants.{Lines, Wrong}
 use Rattle.lines.specs.Hex.{hexDigit, decode, encode}
 use Rattle.lines.specs.Lines.{push, cut, pairsThenEnd, isLine}
-use Rattle.lines.specs.Nodes.{Node, nodeForm, nodeLine, nodeOf, nodes}
+use Rattle.lines.specs.Nodes.{Line, nodeForm, nodeLine, nodeOf, nodes}
 use Rattle.lines.specs.Files.{formOf, limitOf, scanFrom, scan}
-use Rattle.lines.specs.Writing.{Bytes, bytesOf, lineOf, fileOf, Writable, AllWritable}
+use Rattle.lines.specs.Writing.{bytesOf, lineBytes, fileOf}
 use Rattle.lines.specs.Theorems.Bools.{and-left, and-right}
 use Rattle.lines.specs.Theorems.Pairs.{digit-ends-nothing, length-encode, decode-bytes, decode-encode, encode-decode, pairs-encode}
 use Rattle.lines.specs.Theorems.Cutting.{joined, joined-cut}
+use Rattle.lines.specs.Engine.Writes.{Bytes, Writable, AllWritable}
 
 -- ## One line
 
-pub length-line : (n : Node) → length (lineOf n) ≡ 13 + 2 * length (n .text)
-unfolding lineOf bytesOf
+pub length-line : (n : Line) → length (lineBytes n) ≡ 13 + 2 * length (n .text)
+unfolding lineBytes bytesOf
 length-line n = omega (arith, length-append (encode (bytesOf n)) (0x0A ∷ []), length-encode (bytesOf n))
 
-node-bytes : (n : Node) → nodeOf (bytesOf n) ≡ n
+node-bytes : (n : Line) → nodeOf (bytesOf n) ≡ n
 unfolding bytesOf
 node-bytes n =
     let z : 256 * (n .number / 256) + n .number % 256 ≡ n .number = omega arith in
     λ i. record { depth = n .depth; kind = n .kind; mark = n .mark; number = z i; text = n .text }
 
 -- a written line reads back as what was written
-pub read-line : (n : Node) → Writable n → nodeOf (decode (lineOf n)) ≡ n
-unfolding lineOf
+pub read-line : (n : Line) → Writable n → nodeOf (decode (lineBytes n)) ≡ n
+unfolding lineBytes
 read-line n g = ap nodeOf (decode-encode (bytesOf n) (g .bytes)) ∙ node-bytes n
 
-pub written-line : (n : Node) → Writable n → nodeLine (lineOf n) ≡ true
-unfolding nodeLine isLine nodeForm lineOf
+pub written-line : (n : Line) → Writable n → nodeLine (lineBytes n) ≡ true
+unfolding nodeLine isLine nodeForm lineBytes
 written-line n g =
     let six = leb-true 6 (length (bytesOf n)) (and-left (leb 6 (length (bytesOf n))) _ (g .form)) in
     rw (pairs-encode (bytesOf n) (g .bytes), decode-encode (bytesOf n) (g .bytes), le-leb 1 (length (bytesOf n)) (omega arith)) (g .form)
@@ -66,8 +65,8 @@ bytes-node b small e =
         rw (u, v, w)
 
 -- a line of a node's form, written again
-rewrite-line : (c : List ℕ) → nodeLine c ≡ true → lineOf (nodeOf (decode c)) ≡ c
-unfolding nodeLine isLine lineOf
+rewrite-line : (c : List ℕ) → nodeLine c ≡ true → lineBytes (nodeOf (decode c)) ≡ c
+unfolding nodeLine isLine lineBytes
 rewrite-line c e =
     let pairs = and-left (pairsThenEnd c) _ (and-left (isLine c) (nodeForm (decode c)) e) in
     rw (bytes-node (decode c) (decode-bytes c) (and-right (isLine c) (nodeForm (decode c)) e)) (encode-decode c pairs)
@@ -81,9 +80,9 @@ read-writable c e =
 
 -- ## A file
 
-linesOf : List Node → List (List ℕ)
-linesOf [] = []
-linesOf (n ∷ ns) = lineOf n ∷ linesOf ns
+linesBytes : List Line → List (List ℕ)
+linesBytes [] = []
+linesBytes (n ∷ ns) = lineBytes n ∷ linesBytes ns
 
 cut-encode : (b rest : List ℕ) → Bytes b → cut ((encode b ++ (0x0A ∷ [])) ++ rest) ≡ (encode b ++ (0x0A ∷ [])) ∷ cut rest
 unfolding cut encode push
@@ -93,22 +92,22 @@ cut-encode (x ∷ b) rest g =
     rw (digit-ends-nothing (x / 16) (omega arith), digit-ends-nothing (x % 16) (omega arith))
     (ap (λ (l : List (List ℕ)). push (hexDigit (x / 16)) (push (hexDigit (x % 16)) l)) (cut-encode b rest (g .1)))
 
-cut-file : (ns : List Node) → AllWritable ns → cut (fileOf ns) ≡ linesOf ns
-unfolding fileOf linesOf lineOf cut
+cut-file : (ns : List Line) → AllWritable ns → cut (fileOf ns) ≡ linesBytes ns
+unfolding fileOf linesBytes lineBytes cut
 cut-file [] g = refl
 cut-file (n ∷ ns) g = cut-encode (bytesOf n) (fileOf ns) (g .0 .bytes) ∙ ap (λ (l : List (List ℕ)). (encode (bytesOf n) ++ (0x0A ∷ [])) ∷ l) (cut-file ns (g .1))
 
-scan-lines-of : (limit k : ℕ) (ns : List Node) → AllWritable ns → k + length ns ≤ limit → scanFrom nodeLine limit k (linesOf ns) ≡ Lines (k + length ns)
-unfolding scanFrom linesOf
+scan-lines-of : (limit k : ℕ) (ns : List Line) → AllWritable ns → k + length ns ≤ limit → scanFrom nodeLine limit k (linesBytes ns) ≡ Lines (k + length ns)
+unfolding scanFrom linesBytes
 scan-lines-of limit k [] g h = ap Lines (let z : k ≡ k + 0 = omega arith in z)
 scan-lines-of limit k (n ∷ ns) g h =
     rw (lt-ltb k limit (omega arith), written-line n (g .0))
     (scan-lines-of limit (suc k) ns (g .1) (omega arith) ∙ ap Lines (let z : suc k + length ns ≡ k + suc (length ns) = omega arith in z))
 
-nodes-lines-of : (ns : List Node) → AllWritable ns → map (λ c. nodeOf (decode c)) (linesOf ns) ≡ ns
-unfolding linesOf
+nodes-lines-of : (ns : List Line) → AllWritable ns → map (λ c. nodeOf (decode c)) (linesBytes ns) ≡ ns
+unfolding linesBytes
 nodes-lines-of [] g = refl
-nodes-lines-of (n ∷ ns) g = ap₂ (λ (a : Node) (r : List Node). a ∷ r) (read-line n (g .0)) (nodes-lines-of ns (g .1))
+nodes-lines-of (n ∷ ns) g = ap₂ (λ (a : Line) (r : List Line). a ∷ r) (read-line n (g .0)) (nodes-lines-of ns (g .1))
 
 -- what a scan that took all lines says of each of them
 module _ (limit : ℕ) where
@@ -145,7 +144,7 @@ module _ (file : File) (of : OfNodes file) where
   forms = mathlib.Core.Path.fun-ext of
 
   -- a file written from good nodes scans as those nodes
-  pub scan-written : (ns : List Node) → AllWritable ns → length ns ≤ limitOf file → scan file (fileOf ns) ≡ Lines (length ns)
+  pub scan-written : (ns : List Line) → AllWritable ns → length ns ≤ limitOf file → scan file (fileOf ns) ≡ Lines (length ns)
   unfolding scan
   scan-written ns g h = rw (forms, cut-file ns g) (scan-lines-of (limitOf file) 0 ns g (omega arith) ∙ ap Lines (let z : 0 + length ns ≡ length ns = omega arith in z))
 
@@ -159,6 +158,6 @@ module _ (file : File) (of : OfNodes file) where
   unfolding scan nodes
   nodes-writable s n e = rewrite-from (limitOf file) (cut s) 0 n (rw forms at e) .1
 
-pub nodes-written : (ns : List Node) → AllWritable ns → nodes (fileOf ns) ≡ ns
+pub nodes-written : (ns : List Line) → AllWritable ns → nodes (fileOf ns) ≡ ns
 unfolding nodes
 nodes-written ns g = rw (cut-file ns g) (nodes-lines-of ns g)

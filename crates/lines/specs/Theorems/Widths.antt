@@ -1,27 +1,30 @@
 -- A line that has its file's form is at most as wide as the widest, and a file whose lines all have it is no longer than the longest.
-use mathlib.Core.Path.{_≡_, refl, sym, _∙_, ap}
+use mathlib.Core.Path.{_≡_, refl, ap}
 use mathlib.Core.Bool.{Bool, true, false, cond, _&&_}
 use mathlib.Core.List.{List, [], _∷_, _++_}
 use Prim.Native.Nat.{ℕ, suc, _+_, _*_, _-_, _≤_, _<_}
-use native.Mathlib.Nat.{mul-suc, mul-le-mul-right, mul-comm}
+use native.Mathlib.Nat.{mul-suc, mul-comm}
 use native.Mathlib.Omega.{arith}
 use lib.Dec.{eqb, leb, ltb}
 use lib.ListN.{length, getD, drop, length-drop, length-append}
 use borrow.Author.Tests.{leb-true, eqb-true, ltb-true}
 use Rattle.lines.specs.declared.scan.File.{File}
 use Rattle.lines.specs.declared.scan.File.the-variants.{Program, Master, View}
-use Rattle.lines.specs.declared.scan.Scan.{Scan}
 use Rattle.lines.specs.declared.scan.Scan.the-variants.{Lines, Wrong}
 use Rattle.lines.specs.declared.table.Shape.{Shape}
 use Rattle.lines.specs.declared.table.Shape.the-variants.{Nothing, Text, Tag, Slot, Missing}
 use Rattle.lines.specs.Hex.{decode}
 use Rattle.lines.specs.Lines.{pairsThenEnd, isLine, cut}
-use Rattle.lines.specs.Nodes.{nodeForm, nodeLine}
+use Rattle.lines.specs.Nodes.{Line, nodeForm, nodeLine}
 use Rattle.lines.specs.Entries.{textForm, operandForm, entryForm, entryLine, rowOf}
-use Rattle.lines.specs.Files.{formOf, limitOf, widestOf, longestOf, scanFrom, scan, taken}
+use Rattle.lines.specs.Files.{formOf, limitOf, widestOf, longestOf, scanFrom, scan}
+use Rattle.lines.specs.Writing.{fileOf}
 use Rattle.lines.specs.Theorems.Bools.{never, and-left, and-right}
 use Rattle.lines.specs.Theorems.Pairs.{line-length}
 use Rattle.lines.specs.Theorems.Cutting.{joined, joined-cut}
+use Rattle.lines.specs.Theorems.RoundTrip.{view-of-nodes, scan-written}
+use Rattle.lines.specs.Engine.Starts.{taken}
+use Rattle.lines.specs.Engine.Writes.{AllWritable}
 
 text-short : (b : List ℕ) → textForm b ≡ true → length b ≤ 33
 unfolding textForm
@@ -129,3 +132,8 @@ scanned-short file s n e =
     let z : limitOf file - 0 ≡ limitOf file = omega arith in
     let m : widestOf file * (limitOf file - 0) ≡ limitOf file * widestOf file = rw z (mul-comm (widestOf file) (limitOf file)) in
     omega (arith, ap length (joined-cut s), h, m)
+
+-- as is the file of 128 lines that can be written
+pub file-short : (ls : List Line) → AllWritable ls → length ls ≤ 128 → length (fileOf ls) ≤ 9856
+unfolding longestOf limitOf widestOf
+file-short ls form few = scanned-short View (fileOf ls) (length ls) (scan-written View view-of-nodes ls form few)

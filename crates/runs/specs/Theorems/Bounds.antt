@@ -8,18 +8,17 @@ use lib.Dec.{leb, eqb}
 use lib.ListN.{length, getD, length-append}
 use borrow.Author.Tests.{leb-true}
 use Rattle.lines.specs.declared.verdict.Verdict.the-variants.{Fine, Fault}
-use Rattle.lines.specs.Nodes.{isElement}
-use Rattle.lines.specs.Nodes.{Node as Line}
+use Rattle.lines.specs.Nodes.{Line, isElement, noLine}
 use Rattle.lines.specs.Masters.{depthAfter, placed, boundsFrom, masterBounds}
+use Rattle.lines.specs.Theorems.Bools.{and-parts}
 use Rattle.values.specs.Values.{master, Node, Value, Lookup, elementOf, made, raised, items, mostNodes}
-use Rattle.values.specs.Theorems.Bools.{and-parts}
 use Rattle.values.specs.Theorems.Forests.{Shallow, within-true, shallow-append, reach, Walk, Forest, forest-append}
 use Rattle.values.specs.Theorems.Forests.{forest-raised, Good, good-nothing, good-single, good-contents, AllGood, good-items}
 use Rattle.runs.specs.declared.stop.Stop.{Stop}
 use Rattle.runs.specs.Results.{Result, gives}
 use Rattle.runs.specs.Programs.{Transformation, source, nothing, text, tag, slot, contents, within, andThen, beside, each, choose, bind}
 use Rattle.runs.specs.Showing.{Single, Slots, valueIn, Shown, shown, oneElement, inTurn, show, test}
-use Rattle.runs.specs.Grounds.{numberedFrom, noLine, lookupIn, whole, oneMaster, showing}
+use Rattle.runs.specs.Grounds.{numberedFrom, lookupIn, whole, oneMaster, showing}
 use Rattle.runs.specs.Theorems.Combinators.{Run, Asking, withinRun, thenRun, branchRun, chooseRun, bound}
 use Rattle.runs.specs.Theorems.Inversion.{on-gives, on-bind, on-element, on-bounded, on-turn}
 use Rattle.runs.specs.Theorems.OneMaster.{one-line}

@@ -12,7 +12,7 @@ use Rattle.runs.specs.Reading.{Makes, leaf, one, two, choice, testLeaf, 
 use Rattle.runs.specs.Reading.{transformationFrom, testFrom, noEntry, transformationAt, testAt, mostLevels, wholeRoom, readIn, readProgram, faultOf}
 use Rattle.runs.specs.Theorems.Congruence.{bind-same}
 use Rattle.runs.specs.Theorems.Table.{subEntries, classMade, reads-subEntries, reads-class}
-use Rattle.runs.specs.Ends.{stands, endOf, endBelow, endAt}
+use Rattle.runs.specs.Engine.Ends.{stands, endOf, endBelow, endAt}
 
 -- ## It is where the tree that is read ends
 

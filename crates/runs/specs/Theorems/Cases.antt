@@ -1,20 +1,32 @@
 -- Computed cases: standings, programs read, values at the bounds. The standings are of cases that look as if they could go wrong:
 -- copies through slots, hidden slots, locks of tests that say no or whose result is thrown away, program elements around master nodes.
 use mathlib.Core.Path.{_≡_, refl}
-use mathlib.Core.List.{List, [], _∷_, map}
+use mathlib.Core.Bool.{cond, _||_}
+use mathlib.Core.List.{List, [], _∷_, _++_, map}
 use Prim.Native.Nat.{ℕ, zero, suc, _+_}
 use lib.ListN.{length}
+use lib.Dec.{eqb}
 use Rattle.lines.specs.Entries.{Entry, slotOf, textOf}
 use Rattle.runs.specs.Results.{gives, stops, stopNumber, stopEntry}
 use Rattle.runs.specs.Reading.{operations, makes, below, transformationAt, readIn, readProgram}
 use Rattle.lines.specs.declared.verdict.Verdict.{Verdict}
 use Rattle.lines.specs.declared.verdict.Verdict.the-variants.{Fine, Fault}
-use Rattle.lines.specs.Nodes.{isElement}
-use Rattle.lines.specs.Nodes.{Node as Line}
+use Rattle.lines.specs.declared.scan.File.the-variants.{Master}
+use Rattle.lines.specs.declared.scan.Scan.{Scan}
+use Rattle.lines.specs.declared.scan.Scan.the-variants.{Lines}
+use Rattle.lines.specs.Hex.{isHex, hexValue, decode, hexDigit, encode}
+use Rattle.lines.specs.Lines.{push, cut, pairsThenEnd, isLine}
+use Rattle.lines.specs.Files.{formOf, limitOf, scanFrom, scan}
+use Rattle.lines.specs.Nodes.{Line, isMarked, isElement, allOf, isTag, kindRule, nodeForm, nodeLine}
+use Rattle.lines.specs.Masters.{depthAfter, placed, boundsFrom, masterBounds, unmarked}
+use Rattle.lines.specs.Verdicts.{firstFrom}
+use Rattle.lines.specs.Writing as writing
+use Rattle.lines.specs.Writing.{fileOf}
 use Rattle.lines.specs.Texts.{sameText, agree}
-use Rattle.values.specs.Values.{among, elementOf, bytesOf, isFrom, numberOf, isTop, noTop, startsTop, lowered, raised, toFirst, items, shallow, withinBounds}
+use Rattle.values.specs.Values.{among, elementOf, bytesOf, isFrom, masterNumber, isTop, noTop, startsTop, lowered, raised, toFirst, items, shallow, withinBounds}
 use Rattle.values.specs.Standings.{Standing, untouched, changed, deleted, sort, newText, isUntouched, isClash, sameStanding, _⋓_, fitted, allOver, merged, gathered, handsBack}
 use Rattle.runs.specs.Programs.{equals, Transformation, source, nothing, text, tag, slot, contents, within, andThen, beside, each, choose, bind, compares}
+use Rattle.runs.specs.Programs.{isElement as asksElement}
 use Rattle.runs.specs.Showing.{valueIn, oneTop, oneElement, oneText, bounded, inTurn, verdict, show}
 use Rattle.runs.specs.PuttingBack.{mergedInto, untouchedSlots, gatheredSlots, valueOf, saysYes, inside, overItems, putBack}
 use Rattle.runs.specs.Grounds.{oneMaster, numberedFrom, lineOf, whole, showing, standing, firstClash, handedBack, linesIn}
@@ -106,14 +118,15 @@ outcome c =
 
 all-hold : map outcome cases ≡ map (λ c. (c .clash, c .marks)) cases
 unfolding outcome firstClash standing handedBack linesIn numberedFrom lineOf whole show putBack valueIn oneTop oneElement oneText bounded inTurn verdict
-    mergedInto untouchedSlots gatheredSlots valueOf saysYes inside overItems elementOf bytesOf isFrom numberOf isTop noTop startsTop lowered raised toFirst items
+    mergedInto untouchedSlots gatheredSlots valueOf saysYes inside overItems elementOf bytesOf isFrom masterNumber isTop noTop startsTop lowered raised toFirst items
     shallow withinBounds sort newText isUntouched isClash sameStanding _⋓_ fitted allOver merged gathered handsBack isElement sameText agree
 all-hold = refl
 
 -- ## Programs read: soundness and the place of the first fault
 
+-- slot 00 where a slot is asked for
 abbrev entry : ℕ → Entry
-entry operation = record { operation = operation; operand = 0 ∷ [] }
+entry operation = record { operation = operation; operand = cond (eqb operation 0x05 || eqb operation 0x0C) (0 ∷ []) [] }
 
 times : ℕ → ℕ → List ℕ → List ℕ
 times zero b bs = bs
@@ -147,17 +160,30 @@ all-read = refl
 
 -- ## Values at the bounds
 
-texts : ℕ → List Line
-texts zero = []
-texts (suc n) = line 0 1 0 hi ∷ texts n
+-- so many texts, at a depth, numbered on from a number
+textsFrom : ℕ → ℕ → ℕ → List Line
+textsFrom zero depth number = []
+textsFrom (suc n) depth number = line depth 1 number hi ∷ textsFrom n depth (suc number)
 
+abbrev texts : ℕ → List Line
+texts n = textsFrom n 0 0
+
+-- so many elements, each in the one before, from a depth on: numbered like their depths
 nested : ℕ → ℕ → List Line
 nested zero d = []
-nested (suc n) d = line d 2 0 hi ∷ nested n (suc d)
+nested (suc n) d = line d 2 d hi ∷ nested n (suc d)
+
+-- an element with so many texts in it, an element, a text
+abbrev threeItems : ℕ → List Line
+threeItems n = line 0 2 0 hi ∷ textsFrom n 1 1 ++ (line 0 2 (n + 1) lo ∷ line 0 1 (n + 2) hi ∷ [])
 
 -- an element of the program around the source, as entries from e on
 abbrev around : ℕ → Transformation
 around e = bind e 0 (andThen (e + 1) (tag (e + 2) (0x61 ∷ [])) (within (e + 3) (slot (e + 4) 0)))
+
+-- each element twice; at a text, a stop for its source
+abbrev elementsTwice : Transformation
+elementsTwice = each 0 (choose 1 (asksElement 2) (beside 3 (source 4) (source 5)) (contents 6))
 
 -- 0 and how many nodes are shown, or the stop's number and entry
 outcomeShown : List Line × Transformation → ℕ × ℕ
@@ -171,6 +197,9 @@ shows =
     ((texts 128, around 0), (7, 3)) ∷
     ((nested 8 0, andThen 0 (around 1) (around 6)), (0, 10)) ∷
     ((nested 8 0, andThen 0 (around 1) (andThen 6 (around 7) (around 12))), (7, 15)) ∷
+    -- 0A stops for size at its second item, before its third would stop for its source
+    ((threeItems 63, elementsTwice), (7, 0)) ∷
+    ((threeItems 62, elementsTwice), (6, 6)) ∷
     (([], contents 0), (6, 0)) ∷
     (([], source 0), (0, 0)) ∷
     ((twins, contents 0), (6, 0)) ∷
@@ -179,6 +208,22 @@ shows =
     []
 
 all-shown : map (λ c. outcomeShown (c .0)) shows ≡ map (λ c. c .1) shows
-unfolding outcomeShown texts nested stopNumber stopEntry showing numberedFrom lineOf whole show valueIn oneTop oneElement oneText bounded inTurn
-    verdict elementOf bytesOf numberOf isTop noTop startsTop lowered raised toFirst items shallow withinBounds isElement sameText agree
+unfolding outcomeShown textsFrom nested stopNumber stopEntry showing numberedFrom lineOf whole show valueIn oneTop oneElement oneText bounded inTurn
+    verdict elementOf bytesOf masterNumber isTop noTop startsTop lowered raised toFirst items shallow withinBounds isElement sameText agree
 all-shown = refl
+
+-- ## The masters are sound: replies 4 and 5 find no fault in them, nor a mark
+
+abbrev masters : List (List Line)
+masters = map (λ c. c .master) cases ++ map (λ c. c .0 .0) shows
+
+judged : List Line → Scan × Verdict × Verdict
+judged m = (scan Master (fileOf m), masterBounds m, unmarked m)
+
+faultless : List Line → Scan × Verdict × Verdict
+faultless m = (Lines (length m), Fine, Fine)
+
+all-sound : map judged masters ≡ map faultless masters
+unfolding judged faultless textsFrom nested fileOf writing.lineBytes writing.bytesOf encode hexDigit scan scanFrom formOf limitOf cut push isLine pairsThenEnd isHex decode hexValue
+    nodeLine nodeForm kindRule isTag allOf isElement masterBounds boundsFrom placed depthAfter unmarked firstFrom isMarked
+all-sound = refl

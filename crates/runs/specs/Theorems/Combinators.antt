@@ -3,7 +3,7 @@ use mathlib.Core.Bool.{Bool, true, false}
 use mathlib.Core.List.{List, [], _∷_, _++_, map}
 use Prim.Native.Nat.{ℕ}
 use lib.ListN.{length, take, drop}
-use Rattle.values.specs.Values.{Value, Lookup, bytesOf, numberOf, raised, items}
+use Rattle.values.specs.Values.{Value, Lookup, bytesOf, masterNumber, raised, items}
 use Rattle.values.specs.Standings.{Standing, untouched, locked, firstOf, restOf, allOver, merged}
 use Rattle.runs.specs.declared.stop.Stop.{Stop}
 use Rattle.runs.specs.Results.{Result, _>>=_}
@@ -71,7 +71,7 @@ bindRun k run slots v = run (bound k slots v) []
 abbrev pub comparesAsk : Lookup → (List ℕ → List ℕ → Result Stop Bool) → ℕ → Run → Asking
 comparesAsk look judge e run slots v =
     oneText look e v >>= λ x. run slots [] >>= λ a. oneText look e (a .value) >>= λ y.
-    judge (bytesOf look (x .origin)) (bytesOf look (y .origin)) >>= λ b. answer b (a .compared ++ (numberOf (x .origin) ++ numberOf (y .origin)))
+    judge (bytesOf look (x .origin)) (bytesOf look (y .origin)) >>= λ b. answer b (a .compared ++ (masterNumber (x .origin) ++ masterNumber (y .origin)))
 
 -- 12, 13
 abbrev pub plainAsk : {A : Type 0} → (Value → Result Stop A) → (A → Bool) → Asking

@@ -7,8 +7,8 @@ use Prim.Native.Nat.{ℕ, _+_}
 use lib.Dec.{eqb}
 use lib.ListN.{length, take, drop}
 use Rattle.lines.specs.Texts.{sameText}
-use Rattle.values.specs.Theorems.Bools.{or-unit, or-assoc}
-use Rattle.values.specs.Values.{Origin, master, program, Node, Value, Lookup, elementOf, bytesOf, isFrom, numberOf, among, made, lowered, raised, items, joined}
+use Rattle.lines.specs.Theorems.Bools.{or-unit, or-assoc}
+use Rattle.values.specs.Values.{Origin, master, program, Node, Value, Lookup, elementOf, bytesOf, isFrom, masterNumber, among, made, lowered, raised, items, joined}
 use Rattle.values.specs.Standings.{Standing, untouched, locked, _⋓_, firstOf, restOf, allOver, merged, gathered}
 use Rattle.values.specs.Theorems.MergeLaws.{unit-left, unit-right, merge-idem, merge-comm, merge-assoc, merge-left-comm}
 use Rattle.values.specs.Theorems.Gathering.{only, only-untouched, gathered-untouched, gathered-merged, gathered-cut}
@@ -45,8 +45,8 @@ lock-append n c d = rw (among-append n c d) (either (among n c) (among n d))
     either true false = sym (unit-right locked)
     either false b = sym (unit-left (only b locked))
 
-pub lock-number : (n : ℕ) (o : Origin) → lock n (numberOf o) ≡ only (isFrom n o) locked
-unfolding among numberOf isFrom
+pub lock-number : (n : ℕ) (o : Origin) → lock n (masterNumber o) ≡ only (isFrom n o) locked
+unfolding among masterNumber isFrom
 lock-number n (master m) = ap (λ (b : Bool). only b locked) (or-unit (eqb n m))
 lock-number n (program e b t) = refl
 
@@ -248,10 +248,10 @@ module _ (n : ℕ) where
 
   -- locking a text locks its number
   text-locked : (look : Lookup) (e : ℕ) (v : Value) (x : Node) → oneText look e v ≡ gives x
-      → (gathered n v (allOver locked v) ≡ lock n (numberOf (x .origin))) × (gathered n v (locked ∷ []) ≡ lock n (numberOf (x .origin)))
+      → (gathered n v (allOver locked v) ≡ lock n (masterNumber (x .origin))) × (gathered n v (locked ∷ []) ≡ lock n (masterNumber (x .origin)))
   unfolding gathered allOver
   text-locked look e v x h =
-      on-text look (λ w y. (gathered n w (allOver locked w) ≡ lock n (numberOf (y .origin))) × (gathered n w (locked ∷ []) ≡ lock n (numberOf (y .origin))))
+      on-text look (λ w y. (gathered n w (allOver locked w) ≡ lock n (masterNumber (y .origin))) × (gathered n w (locked ∷ []) ≡ lock n (masterNumber (y .origin))))
       (λ y _. let l = unit-right (only (isFrom n (y .origin)) locked) ∙ sym (lock-number n (y .origin)) in (l, l)) e v x h
 
   compares-keeps : (look : Lookup) (judge : List ℕ → List ℕ → Result Stop Bool) (e : ℕ) (run : Run) (put : Putting) → Law n run put
@@ -263,8 +263,8 @@ module _ (n : ℕ) where
       on-bind (oneText look e (a .value)) _ o h₂ λ y r h₃.
       on-bind (judge (bytesOf look (x .origin)) (bytesOf look (y .origin))) _ o h₃ λ b _ h₄.
       let A = put slots [] (locked ∷ []) us in
-      let ours = numberOf (x .origin) in
-      let theirs = numberOf (y .origin) in
+      let ours = masterNumber (x .origin) in
+      let theirs = masterNumber (y .origin) in
       on-gives (λ z. Kept n slots v (comparesPut put slots v rs us) (record { value = v; compared = z .compared }) rs us)
       (record { yes = b; compared = a .compared ++ (ours ++ theirs) }) o h₄
       (rw (gathered-merged n v rs (allOver locked v), text-locked look e v x p .0, lock-append n (a .compared) (ours ++ theirs), lock-append n ours theirs)

@@ -6,11 +6,9 @@ use mathlib.Core.Logic.{_↔_, _⊎_, inl, inr}
 use Prim.Native.Nat.{ℕ, zero, suc, _<_}
 use native.Mathlib.Omega.{arith}
 use lib.Dec.{eqb}
-use lib.ListN.{getD}
 use borrow.Author.Tests.{eqb-true, not-false}
 use Rattle.lines.specs.declared.verdict.Verdict.the-variants.{Fine, Fault}
-use Rattle.lines.specs.Nodes.{isElement, changedMark}
-use Rattle.lines.specs.Nodes.{Node as Line}
+use Rattle.lines.specs.Nodes.{Line, isElement, changedMark, lineAt}
 use Rattle.values.specs.Values.{Origin, master, program, Value, Lookup, bytesOf, isFrom, among}
 use Rattle.values.specs.Standings.{Standing, untouched, isUntouched, isClash, _⋓_, gathered, brings, isEdit, handsBack}
 use Rattle.values.specs.Theorems.MergeLaws.{unit-left, unit-right}
@@ -21,17 +19,13 @@ use Rattle.runs.specs.Results.{gives}
 use Rattle.runs.specs.Programs.{Transformation}
 use Rattle.runs.specs.Showing.{Shown}
 use Rattle.runs.specs.PuttingBack.{untouchedSlots, valueOf}
-use Rattle.runs.specs.Grounds.{noLine, lineOf, lookupIn, Ground, showing, brought, standing, standingFor, firstClash, handedBack, after}
+use Rattle.runs.specs.Grounds.{lineOf, lookupIn, Ground, showing, brought, standing, standingFor, firstClash, handedBack, after}
 use Rattle.runs.specs.Theorems.Conservation.{lock, slots-untouched, law}
 use Rattle.runs.specs.Theorems.Stability.{stable}
 use Rattle.runs.specs.Theorems.Acceptance.{Agreed, no-clash-agreed, agreed-edit, silent-lock, agreed-no-clash}
 use Rattle.runs.specs.Theorems.Grounded.{hasLine, Covered, Rising, absent-gathered, absent-slots, lineOf-handedBack, fine-no-clash, no-clash-fine, fault-least}
 
 -- ## What the demand speaks of: a ground, a program, what it shows, and the lines of a view of it
-
--- line i of the view
-abbrev pub lineAt : List Line → ℕ → Line
-lineAt ls i = getD ls i noLine
 
 -- what line i brings for node n
 abbrev pub editAt : Ground → List Line → ℕ → ℕ → Standing

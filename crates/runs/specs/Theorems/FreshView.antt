@@ -7,8 +7,7 @@ use native.Mathlib.Omega.{arith}
 use lib.Dec.{eqb}
 use lib.ListN.{getD}
 use Rattle.lines.specs.declared.verdict.Verdict.the-variants.{Fine}
-use Rattle.lines.specs.Nodes.{untouchedMark}
-use Rattle.lines.specs.Nodes.{Node as Line}
+use Rattle.lines.specs.Nodes.{Line, untouchedMark, lineAt, noLine}
 use Rattle.values.specs.Values.{Origin, master, program, Value, among}
 use Rattle.values.specs.Standings.{Standing, locked, sort, isClash, isEdit}
 use Rattle.values.specs.Theorems.Gathering.{only}
@@ -17,12 +16,12 @@ use Rattle.values.specs.Theorems.Edits.{handsBack-lock}
 use Rattle.runs.specs.Results.{gives}
 use Rattle.runs.specs.Programs.{Transformation}
 use Rattle.runs.specs.Showing.{Shown}
-use Rattle.runs.specs.Grounds.{Numbered, numberedFrom, noLine, lineOf, lookupIn, Ground, showing, shownLine}
+use Rattle.runs.specs.Grounds.{Numbered, numberedFrom, lineOf, lookupIn, Ground, showing, shownLine}
 use Rattle.runs.specs.Grounds.{view, brought, standingFor, firstClash, handedBack, linesIn, oneMaster}
 use Rattle.runs.specs.Theorems.Conservation.{lock}
 use Rattle.runs.specs.Theorems.Acceptance.{silent-lock}
 use Rattle.runs.specs.Theorems.Grounded.{no-clash-fine}
-use Rattle.runs.specs.Theorems.Demand3.{lineAt, Edited, standingFor-is, brought-fromLine, by-edited}
+use Rattle.runs.specs.Theorems.Demand3.{Edited, standingFor-is, brought-fromLine, by-edited}
 
 handedBack-same : (s : ℕ → Standing) (b : ℕ → Bool) → ((n : ℕ) → s n ≡ only (b n) locked) → (ls : List Numbered) → handedBack s ls ≡ ls
 unfolding handedBack
@@ -55,12 +54,13 @@ unedited-same G X o shows ls none = (
 abbrev pub Unmarked : List Numbered → Type 0
 Unmarked ls = (n : ℕ) → (lineOf ls n) .mark ≡ untouchedMark
 
-fresh-mark : (ls : List Numbered) → Unmarked ls → (d : ℕ) (x : Origin) → (shownLine ls d x) .mark ≡ untouchedMark
+pub fresh-mark : (ls : List Numbered) → Unmarked ls → (d : ℕ) (x : Origin) → (shownLine ls d x) .mark ≡ untouchedMark
 unfolding shownLine
 fresh-mark ls u d (master n) = u n
 fresh-mark ls u d (program e b t) = refl
 
-view-mark : (G : Ground) → Unmarked (G .lines) → (v : Value) (i : ℕ) → (lineAt (view G v) i) .mark ≡ untouchedMark
+-- over lines without a mark no line of a view has one
+pub view-mark : (G : Ground) → Unmarked (G .lines) → (v : Value) (i : ℕ) → (lineAt (view G v) i) .mark ≡ untouchedMark
 unfolding view
 view-mark G u [] i = refl
 view-mark G u (x ∷ v) zero = fresh-mark (G .lines) u (x .depth) (x .origin)

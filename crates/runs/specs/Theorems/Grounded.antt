@@ -6,6 +6,7 @@ use Prim.Native.Nat.{ℕ, suc, _<_, _≤_}
 use native.Mathlib.Omega.{arith}
 use lib.Dec.{eqb}
 use borrow.Author.Tests.{eqb-true, ne-eqb}
+use Rattle.lines.specs.Nodes.{noLine}
 use Rattle.lines.specs.declared.verdict.Verdict.the-variants.{Fine, Fault}
 use Rattle.values.specs.Values.{Value}
 use Rattle.values.specs.Standings.{Standing, untouched, sort, isClash, gathered, handsBack}
@@ -14,7 +15,7 @@ use Rattle.values.specs.Theorems.Copies.{isCopy, gathered-silent}
 use Rattle.values.specs.Theorems.Edits.{handsBack-head}
 use Rattle.runs.specs.Showing.{Slots}
 use Rattle.runs.specs.PuttingBack.{SlotStandings, firstSlot, restSlots, gatheredSlots}
-use Rattle.runs.specs.Grounds.{Numbered, noLine, lineOf, whole, Ground, firstClash, handedBack}
+use Rattle.runs.specs.Grounds.{Numbered, lineOf, whole, Ground, firstClash, handedBack}
 
 -- ## Numbers
 

@@ -13,8 +13,8 @@ use Rattle.runs.specs.Programs.{equals, Transformation, source, nothing,
 use Rattle.runs.specs.Programs.{andThen, beside, each, choose, bind, Test, compares, tagged, isElement}
 use Rattle.runs.specs.Reading.{Room, below, noEntry}
 use Rattle.runs.specs.Theorems.Inversion.{no-gives, gives-inj, on-bind, on-ensure}
-use Rattle.runs.specs.Ends.{stands, endOf, endBelow, endAt}
-use Rattle.runs.specs.Trees.{Stands, StandsTest}
+use Rattle.runs.specs.Engine.Ends.{stands, endOf, endBelow, endAt}
+use Rattle.runs.specs.Engine.Trees.{Stands, StandsTest}
 
 module _ (entries : List Entry) where
   -- where reading at p ends, it ends at q

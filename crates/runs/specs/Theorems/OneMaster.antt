@@ -8,13 +8,13 @@ use native.Mathlib.Omega.{arith}
 use lib.Dec.{eqb}
 use lib.ListN.{length, getD}
 use borrow.Author.Tests.{eq-eqb, ne-eqb}
-use Rattle.lines.specs.Nodes.{Node as Line}
-use Rattle.values.specs.Theorems.Bools.{neither}
+use Rattle.lines.specs.Nodes.{Line, noLine}
+use Rattle.lines.specs.Theorems.Bools.{neither}
 use Rattle.values.specs.Values.{isFrom}
 use Rattle.values.specs.Standings.{Standing}
 use Rattle.values.specs.Theorems.Copies.{isCopy}
 use Rattle.values.specs.Theorems.Edits.{handsBack-head}
-use Rattle.runs.specs.Grounds.{Numbered, numberedFrom, noLine, lineOf, linesIn, whole, oneMaster, handedBack, after}
+use Rattle.runs.specs.Grounds.{Numbered, numberedFrom, lineOf, linesIn, whole, oneMaster, handedBack, after}
 use Rattle.lines.specs.Masters.{depthAfter, placed, boundsFrom, masterBounds}
 use Rattle.runs.specs.Results.{gives}
 use Rattle.runs.specs.Programs.{Transformation}

@@ -7,17 +7,16 @@ use Prim.Native.Nat.{ℕ, zero, suc}
 use lib.Dec.{eqb}
 use borrow.Author.Tests.{eqb-true}
 use Rattle.lines.specs.declared.verdict.Verdict.the-variants.{Fine, Fault}
-use Rattle.lines.specs.Nodes.{changedMark, isElement, kindRule}
-use Rattle.lines.specs.Nodes.{Node as Line}
+use Rattle.lines.specs.Nodes.{Line, changedMark, isElement, kindRule, lineAt}
 use Rattle.lines.specs.Texts.{sameText}
 use Rattle.lines.specs.Views.{sameHead, sameLine, differenceFrom, firstDifference}
-use Rattle.values.specs.Theorems.Bools.{and-parts, or-other}
+use Rattle.lines.specs.Theorems.Bools.{and-parts, or-other}
 use Rattle.values.specs.Theorems.MergeLaws.{sameText-sound}
 use Rattle.values.specs.Theorems.Copies.{isCopy}
 use Rattle.runs.specs.Showing.{Shown}
 use Rattle.runs.specs.Grounds.{lineOf, Ground, view}
 use Rattle.runs.specs.Theorems.ViewLines.{view-shows}
-use Rattle.runs.specs.Theorems.Demand3.{lineAt, FormedLike, TextMarks}
+use Rattle.runs.specs.Theorems.Demand3.{FormedLike, TextMarks}
 
 -- no difference: the same line at each place
 same-at : (k : ℕ) (ls fs : List Line) → differenceFrom k ls fs ≡ Fine → (i : ℕ) → sameLine (lineAt ls i) (lineAt fs i) ≡ true

@@ -14,20 +14,20 @@ use Rattle.runs.specs.Programs.{andThen, beside, each, choose, bind, Tes
 use Rattle.runs.specs.Reading.{Makes, leaf, one, two, choice, testLeaf, testOne, unknown, Row, operations, makes, Room, insideEach}
 use Rattle.runs.specs.Reading.{insideBind, below, Read, read, Reader, transformationFrom, testFrom, noEntry, transformationAt, testAt}
 use Rattle.runs.specs.Theorems.Inversion.{no-gives, gives-inj, on-gives, on-bind, on-ensure}
-use Rattle.runs.specs.Trees.{height, testHeight, Sound, Stands, Placed, PlacedTest}
+use Rattle.runs.specs.Engine.Trees.{height, testHeight, Sound, Stands, Placed, PlacedTest}
 
 -- ## What is read is such a tree
 
 infixr 5 _▹_
-abbrev _▹_ : {A B : Type 0} → A → B → A × B
+abbrev pub _▹_ : {A B : Type 0} → A → B → A × B
 a ▹ b = (a, b)
 
 -- by the row of an operation byte
-abbrev Rows : (ℕ → Row → Type 0) → ℕ → List Row → Type 0
+abbrev pub Rows : (ℕ → Row → Type 0) → ℕ → List Row → Type 0
 Rows P k [] = Unit {0}
 Rows P k (r ∷ rs) = P k r × Rows P (suc k) rs
 
-at-row : (P : ℕ → Row → Type 0) (k : ℕ) (rs : List Row) → Rows P k rs → ((b : ℕ) → P b (λ p e. unknown)) → (i : ℕ) → P (k + i) (getD rs i (λ p e. unknown))
+pub at-row : (P : ℕ → Row → Type 0) (k : ℕ) (rs : List Row) → Rows P k rs → ((b : ℕ) → P b (λ p e. unknown)) → (i : ℕ) → P (k + i) (getD rs i (λ p e. unknown))
 at-row P k [] h d i = d (k + i)
 at-row P k (r ∷ rs) h d zero = subst (λ (j : ℕ). P j r) (let e : k ≡ k + 0 = omega arith in e) (h .0)
 at-row P k (r ∷ rs) h d (suc i) = subst (λ (j : ℕ). P j (getD rs i (λ p e. unknown))) (let e : suc k + i ≡ k + suc i = omega arith in e) (at-row P (suc k) rs (h .1) d i)

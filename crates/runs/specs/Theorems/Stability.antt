@@ -7,8 +7,8 @@ use lib.Dec.{eqb}
 use lib.ListN.{length}
 use borrow.Author.Tests.{eq-eqb}
 use Rattle.lines.specs.Texts.{sameText}
-use Rattle.values.specs.Theorems.Bools.{or-left, or-right}
-use Rattle.values.specs.Values.{Origin, master, program, Value, Lookup, elementOf, bytesOf, numberOf, among, raised, items}
+use Rattle.lines.specs.Theorems.Bools.{or-left, or-right}
+use Rattle.values.specs.Values.{Origin, master, program, Value, Lookup, elementOf, bytesOf, masterNumber, among, raised, items}
 use Rattle.runs.specs.declared.stop.Stop.{Stop}
 use Rattle.runs.specs.Results.{Result, gives}
 use Rattle.runs.specs.Programs.{Transformation, source, nothing, text, tag, slot, contents, within, andThen, beside, each, choose, bind, Test, compares, tagged, isElement}
@@ -87,8 +87,8 @@ module _ (old new : Lookup) where
       rw (T slots v p q (at-left (p .compared) (a .compared) w), chooseRun, branch-stable (p .yes) f g f′ g′ F G slots v a r (at-right (p .compared) (a .compared) w))
 
   -- a node whose number, if it has one, was compared
-  bytes-same : (o : Origin) → SameAt (numberOf o) → bytesOf old o ≡ bytesOf new o
-  unfolding bytesOf numberOf among
+  bytes-same : (o : Origin) → SameAt (masterNumber o) → bytesOf old o ≡ bytesOf new o
+  unfolding bytesOf masterNumber among
   bytes-same (master n) w = w n (or-left (eqb n n) false (eq-eqb n n refl))
   bytes-same (program e b t) w = refl
 
@@ -122,8 +122,8 @@ module _ (old new : Lookup) where
         on-bind (f slots []) _ o h₁ λ a q h₂.
         on-bind (oneText old e (a .value)) _ o h₂ λ y r h₃.
         on-bind (judge (bytesOf old (x .origin)) (bytesOf old (y .origin))) _ o h₃ λ b _ h₄.
-        let ours = numberOf (x .origin) in
-        let theirs = numberOf (y .origin) in
+        let ours = masterNumber (x .origin) in
+        let theirs = masterNumber (y .origin) in
         let c = on-gives (λ z. SameAt (z .compared) → SameAt (a .compared ++ (ours ++ theirs))) (record { yes = b; compared = a .compared ++ (ours ++ theirs) }) o h₄ (λ u. u) w in
         let d = at-right (a .compared) (ours ++ theirs) c in
         rw (

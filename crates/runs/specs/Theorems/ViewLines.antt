@@ -5,11 +5,10 @@ use mathlib.Core.List.{List, [], _∷_}
 use Prim.Native.Nat.{ℕ, zero, suc}
 use native.Mathlib.Omega.{arith}
 use borrow.Author.Tests.{eqb-true, eq-eqb}
-use Rattle.lines.specs.Nodes.{Node as Line}
+use Rattle.lines.specs.Nodes.{Line, lineAt}
 use Rattle.values.specs.Values.{Origin, master, program, Value, isFrom}
 use Rattle.values.specs.Theorems.Copies.{isCopy}
 use Rattle.runs.specs.Grounds.{Numbered, lineOf, Ground, shownLine, view}
-use Rattle.runs.specs.Theorems.Demand3.{lineAt}
 
 -- w shows node n as its line l has it
 pub record Shows (n : ℕ) (l w : Line) : Type 0 where

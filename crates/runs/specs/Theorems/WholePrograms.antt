@@ -1,8 +1,8 @@
--- Whole programs: one is read exactly if its tree stands in all its lines, with twelve levels and in the whole room; and what that says in document 01's numbers.
+-- Whole programs: one is read exactly if its tree stands in all its lines, with twelve levels and in the whole room.
 use mathlib.Core.Path.{_≡_, refl, sym, ap, subst, _∙_}
 use mathlib.Core.Bool.{Bool, true, false}
 use mathlib.Core.List.{List}
-use Prim.Native.Nat.{ℕ, suc, pred, _≤_, _<_, max}
+use Prim.Native.Nat.{ℕ, suc, _≤_, _<_}
 use native.Mathlib.Omega.{arith}
 use lib.Dec.{leb, ltb}
 use lib.ListN.{getD, length, List·getD-eq-default}
@@ -11,15 +11,15 @@ use Rattle.lines.specs.Entries.{Entry}
 use Rattle.runs.specs.Results.{gives}
 use Rattle.runs.specs.Programs.{equals, Transformation, source, nothing, text, tag, slot, contents, within}
 use Rattle.runs.specs.Programs.{andThen, beside, each, choose, bind, Test, compares, tagged, isElement}
-use Rattle.runs.specs.Reading.{Room, wholeRoom, mostLevels, insideEach, insideBind, noEntry, transformationAt, readIn, readProgram}
+use Rattle.runs.specs.Reading.{wholeRoom, mostLevels, noEntry, transformationAt, readIn, readProgram}
 use Rattle.runs.specs.Theorems.Inversion.{on-gives, on-bind, on-ensure}
-use Rattle.runs.specs.Trees.{height, Sound, SoundTest, Stands, StandsTest, Placed}
+use Rattle.runs.specs.Engine.Trees.{Stands, StandsTest, Placed}
 use Rattle.runs.specs.Theorems.Soundness.{read-placed, placed-read}
 
 -- ## Nothing missing, nothing left over
 
 -- behind the last line stands no operation
-head-within : (entries : List Entry) (b p : ℕ) → (0 ≡ b → ⊥) → (getD entries p noEntry) .operation ≡ b → p < length entries
+pub head-within : (entries : List Entry) (b p : ℕ) → (0 ≡ b → ⊥) → (getD entries p noEntry) .operation ≡ b → p < length entries
 head-within entries b p n h = go (ltb p (length entries)) refl
   where
     go : (t : Bool) → ltb p (length entries) ≡ t → p < length entries
@@ -73,74 +73,3 @@ program-placed entries X h =
 pub placed-program : (entries : List Entry) (X : Transformation) → Placed entries X 0 (length entries) mostLevels wholeRoom → readProgram entries ≡ gives X
 unfolding readProgram readIn
 placed-program entries X d = rw (placed-read entries X mostLevels wholeRoom 0 (length entries) d, le-leb (length entries) (length entries) (omega arith))
-
--- ## Document 01's numbers
-
--- the most 0A, and the most 0C, on a way down
-abbrev most : ℕ × ℕ → ℕ × ℕ → ℕ × ℕ
-most a b = (max (a .0) (b .0), max (a .1) (b .1))
-
-unfoldable mutual
-  pub deepest : Transformation → ℕ × ℕ
-  deepest (source e) = (0, 0)
-  deepest (nothing e) = (0, 0)
-  deepest (text e b) = (0, 0)
-  deepest (tag e b) = (0, 0)
-  deepest (slot e k) = (0, 0)
-  deepest (contents e) = (0, 0)
-  deepest (within e X) = deepest X
-  deepest (andThen e X Y) = most (deepest X) (deepest Y)
-  deepest (beside e X Y) = most (deepest X) (deepest Y)
-  deepest (each e X) = (suc (deepest X .0), deepest X .1)
-  deepest (choose e P X Y) = most (deepestTest P) (most (deepest X) (deepest Y))
-  deepest (bind e k X) = (deepest X .0, suc (deepest X .1))
-
-  pub deepestTest : Test → ℕ × ℕ
-  deepestTest (compares e c X) = deepest X
-  deepestTest (tagged e t) = (0, 0)
-  deepestTest (isElement e) = (0, 0)
-
-abbrev Few : ℕ × ℕ → Room → Type 0
-Few c room = (c .0 ≤ room .eaches) × (c .1 ≤ room .binds)
-
-few-most : (a b : ℕ × ℕ) (room : Room) → Few a room → Few b room → Few (most a b) room
-few-most a b room p q = (omega arith, omega arith)
-
-mutual
-  unfolding Sound deepest
-
-  sound-few : (X : Transformation) (room : Room) → Sound X room → Few (deepest X) room
-  sound-few (source e) = λ room s. (omega arith, omega arith)
-  sound-few (nothing e) = λ room s. (omega arith, omega arith)
-  sound-few (text e b) = λ room s. (omega arith, omega arith)
-  sound-few (tag e b) = λ room s. (omega arith, omega arith)
-  sound-few (slot e k) = λ room s. (omega arith, omega arith)
-  sound-few (contents e) = λ room s. (omega arith, omega arith)
-  sound-few (within e X) = sound-few X
-  sound-few (andThen e X Y) = λ room s. few-most (deepest X) (deepest Y) room (sound-few X room (s .0)) (sound-few Y room (s .1))
-  sound-few (beside e X Y) = λ room s. few-most (deepest X) (deepest Y) room (sound-few X room (s .0)) (sound-few Y room (s .1))
-  sound-few (each e X) = λ room s.
-      let l = leb-true 1 (room .eaches) (s .0) in
-      let x = sound-few X (insideEach room) (s .1) in
-      let y : deepest X .0 ≤ pred (room .eaches) = x .0 in
-      (omega arith, x .1)
-  sound-few (choose e P X Y) = λ room s.
-      few-most (deepestTest P) (most (deepest X) (deepest Y)) room (test-few P room (s .0))
-      (few-most (deepest X) (deepest Y) room (sound-few X room (s .1)) (sound-few Y room (s .2)))
-  sound-few (bind e k X) = λ room s.
-      let l = leb-true 1 (room .binds) (s .0) in
-      let x = sound-few X (insideBind k room) (s .1) in
-      let y : deepest X .1 ≤ pred (room .binds) = x .1 in
-      (x .0, omega arith)
-
-  test-few : (P : Test) (room : Room) → SoundTest P room → Few (deepestTest P) room
-  test-few (compares e c X) = sound-few X
-  test-few (tagged e t) = λ room s. (omega arith, omega arith)
-  test-few (isElement e) = λ room s. (omega arith, omega arith)
-
--- "no entry is at level 13", "at most three 0A and at most four 0C"
-pub program-bounds : (entries : List Entry) (X : Transformation) → readProgram entries ≡ gives X → (height X ≤ 12) × (deepest X .0 ≤ 3) × (deepest X .1 ≤ 4)
-program-bounds entries X h =
-    let d = program-placed entries X h in
-    let f = sound-few X wholeRoom (d .sound) in
-    (d .high, f .0, f .1)

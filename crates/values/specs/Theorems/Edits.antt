@@ -5,8 +5,7 @@ use mathlib.Core.List.{List}
 use Prim.Native.Nat.{ℕ}
 use lib.Dec.{eqb}
 use borrow.Author.Tests.{eqb-true}
-use Rattle.lines.specs.Nodes.{changedMark, deletedMark}
-use Rattle.lines.specs.Nodes.{Node as Line}
+use Rattle.lines.specs.Nodes.{Line, changedMark, deletedMark}
 use Rattle.values.specs.Standings.{Standing, untouched, locked, changed, deleted, clash, sort, isUntouched, isClash, sameStanding, brings, isEdit, handsBack}
 use Rattle.values.specs.Theorems.Gathering.{only}
 

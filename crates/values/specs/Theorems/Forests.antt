@@ -8,8 +8,8 @@ use native.Mathlib.Nat.{pred-le-pred}
 use lib.Dec.{leb, eqb}
 use lib.ListN.{length, length-append, length-map}
 use borrow.Author.Tests.{leb-true, eqb-true, eqb-false, not-true}
+use Rattle.lines.specs.Theorems.Bools.{and-parts}
 use Rattle.values.specs.Values.{Node, Value, Lookup, elementOf, isTop, noTop, startsTop, under, onward, lowered, raised, items, mostNodes, mostDepth, shallow, withinBounds}
-use Rattle.values.specs.Theorems.Bools.{and-parts}
 use Rattle.values.specs.Theorems.Items.{under-onward, onward-startsTop, by-items}
 
 -- ## Bounds

@@ -5,9 +5,8 @@ use mathlib.Core.List.{List, [], _∷_}
 use Prim.Native.Nat.{ℕ}
 use lib.Dec.{eqb}
 use borrow.Author.Tests.{eqb-true, eq-eqb, eqb-false, ne-eqb}
-use lib.ListN.{length}
 use Rattle.lines.specs.Texts.{sameText}
-use Rattle.values.specs.Theorems.Bools.{and-parts}
+use Rattle.lines.specs.Theorems.Bools.{and-parts}
 use Rattle.values.specs.Standings.{Standing, untouched, locked, changed, deleted, clash, sort, newText, isUntouched, isClash, sameStanding, _⋓_}
 
 -- ## Equal standings

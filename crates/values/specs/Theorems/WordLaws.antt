@@ -1,18 +1,18 @@
 -- Words stand for nodes and standings: what is done to the words is done to what they stand for.
 use mathlib.Core.Path.{_≡_, refl, sym, _∙_, ap, ap₂}
-use mathlib.Core.Bool.{Bool, true, false, cond, _&&_, not}
+use mathlib.Core.Bool.{Bool, true, false, cond, _&&_}
 use mathlib.Core.List.{List, [], _∷_, _++_, map}
-use Prim.Native.Nat.{ℕ, zero, suc, pred, _+_, _-_, _*_, _/_, _%_, _≤_, _<_}
+use Prim.Native.Nat.{ℕ, suc, pred, _+_, _-_, _/_, _%_, _≤_, _<_}
 use native.Mathlib.Numerals.{sub-one, lt-of-le-of-ne}
 use native.Mathlib.Omega.{arith}
 use lib.Dec.{eqb, leb, ltb}
-use lib.ListN.{length, getD, take, drop, length-map}
+use lib.ListN.{length, getD, take, length-map}
 use borrow.Author.Tests.{ltb-true, ltb-false, lt-ltb, le-ltb, eqb-true, eqb-false, eq-eqb, ne-eqb, leb-true}
 use Rattle.lines.specs.Texts.{sameText}
 use Rattle.lines.specs.Theorems.Bools.{and-left, and-right}
-use Rattle.values.specs.Values.{Node, Value, isTop, noTop, lowered, raised, under, shallow}
+use Rattle.values.specs.Values.{Node, Value, isTop, lowered, raised, shallow}
 use Rattle.values.specs.Standings.{Standing, untouched, locked, changed, deleted, clash, sort, newText, isUntouched, sameStanding, _⋓_, merged}
-use Rattle.values.specs.Words.{part, Made, originOf, nodeOf, valueAt, loweredWord, raisedWord, standingOf, standingsAt, Named, AllNamed, mergedWord, mergedWords}
+use Rattle.values.specs.Engine.Words.{part, Made, originOf, nodeOf, valueAt, loweredWord, raisedWord, standingOf, standingsAt, Named, AllNamed, mergedWord, mergedWords}
 use Rattle.values.specs.Theorems.MergeLaws.{sameText-comm, same-refl}
 use Rattle.values.specs.Theorems.Extents.{length-part, part-join, part-cons, frame-part}
 
@@ -199,3 +199,9 @@ module _ (texts : ℕ → List ℕ) where
   merged-words (a ∷ k) (b ∷ l) e p q =
       let r = merged-words k l (omega arith) (p .1) (q .1) in
       (ap₂ (λ (s : Standing) (ss : List Standing). s ∷ ss) (merged-word a b (p .0) (q .0)) (r .0), (named-merged a b (p .0) (q .0), r .1))
+
+pub merged-length : (k l : List ℕ) → length k ≡ length l → length (mergedWords k l) ≡ length k
+unfolding mergedWords
+merged-length [] l e = refl
+merged-length (a ∷ k) [] e = absurd (omega arith)
+merged-length (a ∷ k) (b ∷ l) e = ap suc (merged-length k l (omega arith))

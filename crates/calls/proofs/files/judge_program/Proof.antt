@@ -2,7 +2,8 @@
 use Prim.Native.Nat.{_≤_}
 use native.Mathlib.Omega.{arith}
 use borrow.Author.Needs.{needs}
-use Rattle.calls.proofs.Places.{scanned-wrong, refused}
+use Rattle.lines.specs.Theorems.Places.{scanned-wrong}
+use Rattle.calls.proofs.Places.{refused}
 use Rattle.calls.proofs.JudgedFiles.{program-misformed, program-few, program-sized, program-faulty, program-goes}
 use Rattle.calls.proofs.files.judge_program.Statement.{statement}
 use Rattle.calls.proofs.files.judge_program.Tie as tie

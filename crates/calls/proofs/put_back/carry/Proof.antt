@@ -5,10 +5,9 @@ use mathlib.Core.List.{List}
 use lib.ListN.{length, length-map, replicate}
 use Prim.Native.Nat.{ℕ}
 use borrow.Author.Needs.{needs}
-use Rattle.lines.specs.Nodes.{nodeAt}
-use Rattle.lines.specs.Nodes.{Node as Line}
+use Rattle.lines.specs.Nodes.{Line}
 use Rattle.lines.specs.Entries.{Entry}
-use Rattle.runs.specs.Runs.{entriesOf, linesOf}
+use Rattle.lines.specs.Engine.Starts.{nodeAt, linesOf, entriesOf}
 use Rattle.calls.proofs.Carrying.{Handed, Stood, put-asks, standings-put}
 use Rattle.calls.proofs.put_back.carry.Statement.{statement}
 use Rattle.calls.proofs.put_back.carry.Tie as tie

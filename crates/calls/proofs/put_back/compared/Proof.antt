@@ -3,7 +3,7 @@ use native.Mathlib.Omega.{arith}
 use mathlib.Core.Path.{refl}
 use Prim.Native.Nat.{_≤_}
 use borrow.Author.Needs.{needs}
-use Rattle.runs.specs.Runs.{entriesOf, linesOf}
+use Rattle.lines.specs.Engine.Starts.{linesOf, entriesOf}
 use Rattle.calls.specs.Outcomes.{outRoom}
 use Rattle.calls.proofs.Comparing.{Beside, fresh-room, end-inside, never-wrong, few-scanned, judged-beside}
 use Rattle.calls.proofs.put_back.compared.Statement.{statement}

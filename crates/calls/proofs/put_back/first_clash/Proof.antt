@@ -5,7 +5,7 @@ use Prim.Native.Nat.{ℕ, _+_, _-_, _≤_}
 use native.Mathlib.Omega.{arith}
 use Rattle.lines.specs.Verdicts.{firstFrom}
 use Rattle.values.specs.Standings.{isClash}
-use Rattle.values.specs.Words.{standingsAt}
+use Rattle.values.specs.Engine.Words.{standingsAt}
 use Rattle.calls.proofs.Clashes.{clash-starts, clash-here, clash-later, clash-none}
 use Rattle.calls.proofs.put_back.first_clash.Statement.{statement}
 use Rattle.calls.proofs.put_back.first_clash.Tie as tie

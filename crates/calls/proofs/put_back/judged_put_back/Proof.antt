@@ -5,7 +5,7 @@ use mathlib.Core.Bool.{true}
 use mathlib.Core.List.{List}
 use borrow.Author.Needs.{needs}
 use Rattle.calls.specs.Judging.{judgedPutBack}
-use Rattle.calls.specs.Parts.{RunReached}
+use Rattle.calls.specs.Engine.Parts.{RunReached}
 use Rattle.calls.proofs.Steps.{refused-settles, reached-run, reached-refused, comparable, compared-settles}
 use Rattle.calls.proofs.put_back.judged_put_back.Statement.{statement}
 use Rattle.calls.proofs.put_back.judged_put_back.Tie as tie

@@ -3,7 +3,7 @@ use native.Mathlib.Omega.{arith}
 use mathlib.Core.List.{List}
 use borrow.Author.Needs.{needs}
 use borrow.Rule.Slice.PartMut.{drop-put}
-use Rattle.lines.specs.Nodes.{Node as Line}
+use Rattle.lines.specs.Nodes.{Line}
 use Rattle.calls.specs.Judging.{Judged, judgedPutBack}
 use Rattle.calls.specs.Outcomes.{workRoom, putBackCall}
 use Rattle.calls.proofs.Judged.{short-out, short-work, settled-call}

@@ -2,7 +2,7 @@
 use native.Mathlib.Omega.{arith}
 use borrow.Author.Needs.{needs}
 use Rattle.calls.specs.Judging.{judgedProgram, judgedMaster}
-use Rattle.calls.specs.Parts.{ProgramGoes, MasterGoes}
+use Rattle.calls.specs.Engine.Parts.{ProgramGoes, MasterGoes}
 use Rattle.calls.proofs.Steps.{refused-first, refused-later, program-goes, program-refused, master-goes, master-refused}
 use Rattle.calls.proofs.Steps.{run-goes, run-refused, runnable, stopped-reaches}
 use Rattle.calls.proofs.reach.reach.Statement.{statement}

@@ -3,9 +3,9 @@ use Prim.Native.Nat.{_-_, _<_}
 use native.Mathlib.Omega.{arith}
 use lib.ListN.{length}
 use borrow.Author.Needs.{needs}
-use Rattle.values.proofs.Loops.{Putting, putting-starts, putting-ends}
-use Rattle.runs.specs.Runs.{linesOf}
-use Rattle.calls.specs.Parts.{sourceWords}
+use Rattle.lines.specs.Theorems.PutAt.{Putting, putting-starts, putting-ends}
+use Rattle.lines.specs.Engine.Starts.{linesOf}
+use Rattle.calls.specs.Engine.Parts.{sourceWords}
 use Rattle.calls.proofs.Sources.{words-long, loading-goes-on}
 use Rattle.calls.proofs.run_program.load.Statement.{statement}
 use Rattle.calls.proofs.run_program.load.Tie as tie

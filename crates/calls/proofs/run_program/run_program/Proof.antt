@@ -4,11 +4,10 @@ use mathlib.Core.List.{List}
 use native.Mathlib.Omega.{arith}
 use lib.ListN.{length, length-map}
 use borrow.Author.Needs.{needs}
-use Rattle.lines.specs.Nodes.{nodeAt}
-use Rattle.lines.specs.Nodes.{Node as Line}
-use Rattle.values.specs.Words.{part}
-use Rattle.runs.specs.Runs.{linesOf}
-use Rattle.calls.specs.Parts.{sourceWords}
+use Rattle.lines.specs.Nodes.{Line}
+use Rattle.lines.specs.Engine.Starts.{nodeAt, linesOf}
+use Rattle.values.specs.Engine.Words.{part}
+use Rattle.calls.specs.Engine.Parts.{sourceWords}
 use Rattle.calls.proofs.Places.{refused}
 use Rattle.calls.proofs.Grounded.{program-ready}
 use Rattle.calls.proofs.Sources.{run-space, loaded-foot, run-stops, run-goes}

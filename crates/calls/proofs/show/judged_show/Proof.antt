@@ -5,7 +5,7 @@ use mathlib.Core.Bool.{false}
 use mathlib.Core.List.{List}
 use borrow.Author.Needs.{needs}
 use Rattle.calls.specs.Judging.{judgedShow}
-use Rattle.calls.specs.Parts.{RunReached}
+use Rattle.calls.specs.Engine.Parts.{RunReached}
 use Rattle.calls.proofs.Steps.{refused-settles, reached-run, reached-refused, fresh-short, view-room, shown-settles}
 use Rattle.calls.proofs.show.judged_show.Statement.{statement}
 use Rattle.calls.proofs.show.judged_show.Tie as tie

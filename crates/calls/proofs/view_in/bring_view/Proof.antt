@@ -3,9 +3,9 @@ use mathlib.Core.Path.{sym, _∙_}
 use Prim.Native.Nat.{_+_, _-_, _≤_, _<_}
 use native.Mathlib.Omega.{arith}
 use lib.ListN.{length}
-use Rattle.values.proofs.Loops.{Putting, putting-starts, putting-goes-on, putting-ends}
-use Rattle.runs.specs.Runs.{linesOf}
-use Rattle.calls.specs.Parts.{broughtWords}
+use Rattle.lines.specs.Theorems.PutAt.{Putting, putting-starts, putting-goes-on, putting-ends}
+use Rattle.lines.specs.Engine.Starts.{linesOf}
+use Rattle.calls.specs.Engine.Parts.{broughtWords}
 use Rattle.calls.proofs.ViewWords.{words-long, word-at}
 use Rattle.calls.proofs.view_in.bring_view.Statement.{statement}
 use Rattle.calls.proofs.view_in.bring_view.Tie as tie

@@ -3,9 +3,8 @@ use mathlib.Core.Path.{_≡_, sym, _∙_}
 use mathlib.Core.List.{List}
 use lib.ListN.{getD}
 use borrow.Author.Needs.{needs}
-use Rattle.lines.specs.Nodes.{Node as Line}
-use Rattle.runs.specs.Grounds.{noLine}
-use Rattle.runs.specs.Runs.{linesOf}
+use Rattle.lines.specs.Nodes.{Line, noLine}
+use Rattle.lines.specs.Engine.Starts.{linesOf}
 use Rattle.calls.proofs.ViewWords.{mark-read, word-changed, word-deleted, word-untouched}
 use Rattle.calls.proofs.view_in.brought.Statement.{statement}
 use Rattle.calls.proofs.view_in.brought.Tie as tie

@@ -4,9 +4,9 @@ use Prim.Native.Nat.{_-_, _≤_, _<_}
 use native.Mathlib.Omega.{arith}
 use lib.ListN.{length, getD, drop}
 use borrow.Author.Needs.{needs}
-use Rattle.runs.specs.Grounds.{noLine}
-use Rattle.runs.specs.Runs.{linesOf}
-use Rattle.calls.specs.Parts.{firstWith}
+use Rattle.lines.specs.Nodes.{noLine}
+use Rattle.lines.specs.Engine.Starts.{linesOf}
+use Rattle.calls.specs.Engine.Parts.{firstWith}
 use Rattle.calls.proofs.ViewWords.{found-here, found-later, found-itself}
 use Rattle.calls.proofs.view_in.first_same.Statement.{statement}
 use Rattle.calls.proofs.view_in.first_same.Tie as tie

@@ -3,9 +3,10 @@ use mathlib.Core.List.{List}
 use Prim.Native.Nat.{_≤_}
 use native.Mathlib.Omega.{arith}
 use borrow.Author.Needs.{needs}
-use Rattle.lines.specs.Nodes.{Node as Line}
-use Rattle.runs.specs.Runs.{linesOf}
-use Rattle.calls.proofs.Places.{scanned-wrong, refused}
+use Rattle.lines.specs.Nodes.{Line}
+use Rattle.lines.specs.Theorems.Places.{scanned-wrong}
+use Rattle.lines.specs.Engine.Starts.{linesOf}
+use Rattle.calls.proofs.Places.{refused}
 use Rattle.calls.proofs.ViewJudging.{Differs, Marked, view-misformed, view-few, differs, marked}
 use Rattle.calls.proofs.view_in.judge_view.Statement.{statement}
 use Rattle.calls.proofs.view_in.judge_view.Tie as tie

@@ -5,11 +5,9 @@ use mathlib.Core.List.{List}
 use Prim.Native.Nat.{_%_}
 use borrow.Author.Needs.{needs}
 use Rattle.lines.specs.Entries.{Entry}
-use Rattle.lines.specs.Nodes.{nodeAt}
-use Rattle.lines.specs.Nodes.{Node as Line}
-use Rattle.runs.specs.Grounds.{noLine}
-use Rattle.runs.specs.Runs.{entriesOf, linesOf}
-use Rattle.calls.proofs.LinesAt.{line-at, no-line-at}
+use Rattle.lines.specs.Nodes.{Line, noLine}
+use Rattle.lines.specs.Theorems.LinesAt.{line-at, no-line-at}
+use Rattle.lines.specs.Engine.Starts.{entriesOf, nodeAt, linesOf}
 use Rattle.calls.proofs.WordLines.{head-is, program-head, master-head}
 use Rattle.calls.proofs.view_out.head_of.Statement.{statement}
 use Rattle.calls.proofs.view_out.head_of.Tie as tie

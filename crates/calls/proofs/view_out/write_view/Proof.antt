@@ -2,9 +2,9 @@
 use Prim.Native.Nat.{_+_, _-_, _<_}
 use native.Mathlib.Omega.{arith}
 use lib.ListN.{length}
-use Rattle.runs.specs.Runs.{entriesOf, linesOf}
-use Rattle.calls.specs.Parts.{viewLines}
-use Rattle.calls.proofs.WritingLines.{Writing, writing-starts, writing-room, writing-goes-on, writing-ends}
+use Rattle.lines.specs.Theorems.WritingLines.{Writing, writing-starts, writing-room, writing-goes-on, writing-ends}
+use Rattle.lines.specs.Engine.Starts.{linesOf, entriesOf}
+use Rattle.calls.specs.Engine.Parts.{viewLines}
 use Rattle.calls.proofs.WordLines.{view-fits, view-at, view-depth}
 use Rattle.calls.proofs.view_out.write_view.Statement.{statement}
 use Rattle.calls.proofs.view_out.write_view.Tie as tie

@@ -1,14 +1,13 @@
 -- The head of the word's line and the text where its place says; an empty part has the empty text.
 use mathlib.Core.Path.{_≡_}
 use borrow.Author.Needs.{needs}
-use Rattle.lines.specs.Hex.{hexValue, pairAt}
-use Rattle.lines.specs.Texts.{bytesFrom, textAt}
-use Rattle.lines.specs.Writing.{headed}
+use Rattle.lines.specs.Hex.{hexValue}
+use Rattle.lines.specs.Theorems.WritingLines.{room-as, written-as}
+use Rattle.lines.specs.Engine.Starts.{linesOf, entriesOf, pairAt, bytesFrom, textAt}
+use Rattle.lines.specs.Engine.Writes.{headed}
 use Rattle.runs.specs.declared.lookup.Text.{Text}
-use Rattle.runs.specs.Lookups.{textIn}
-use Rattle.runs.specs.Runs.{entriesOf, linesOf}
-use Rattle.calls.specs.Parts.{wordLine}
-use Rattle.calls.proofs.WritingLines.{room-as, written-as}
+use Rattle.runs.specs.Engine.Lookups.{textIn}
+use Rattle.calls.specs.Engine.Parts.{wordLine}
 use Rattle.calls.proofs.WordLines.{word-line}
 use Rattle.calls.proofs.view_out.write_word.Statement.{statement}
 use Rattle.calls.proofs.view_out.write_word.Tie as tie

@@ -5,17 +5,15 @@ use Prim.Native.Nat.{ℕ, _+_, _-_, _≤_, _<_}
 use lib.ListN.{length, getD}
 use borrow.Author.Needs.{needs}
 use Rattle.lines.specs.declared.write.Head.{Head}
-use Rattle.lines.specs.Hex.{hexValue, pairAt}
-use Rattle.lines.specs.Nodes.{nodeAt}
-use Rattle.lines.specs.Nodes.{Node as Line}
-use Rattle.lines.specs.Texts.{bytesFrom, textAt}
-use Rattle.lines.specs.Writing.{headed}
+use Rattle.lines.specs.Hex.{hexValue}
+use Rattle.lines.specs.Nodes.{Line}
+use Rattle.lines.specs.Theorems.LinesAt.{text-at}
+use Rattle.lines.specs.Theorems.WritingLines.{room-as, written-as}
+use Rattle.lines.specs.Engine.Starts.{pairAt, nodeAt, linesOf, bytesFrom, textAt}
+use Rattle.lines.specs.Engine.Writes.{headed}
 use Rattle.values.specs.Standings.{handsBack}
-use Rattle.values.specs.Words.{standingOf}
-use Rattle.runs.specs.Runs.{linesOf}
-use Rattle.calls.specs.Parts.{markLeft, textsOf}
-use Rattle.calls.proofs.LinesAt.{text-at}
-use Rattle.calls.proofs.WritingLines.{room-as, written-as}
+use Rattle.values.specs.Engine.Words.{standingOf}
+use Rattle.calls.specs.Engine.Parts.{markLeft, textsOf}
 use Rattle.calls.proofs.WordLines.{head-is}
 use Rattle.calls.proofs.HandedLines.{handedHead, keeps-text, takes-text, view-text, view-no-text}
 use Rattle.calls.proofs.write_master.write_handed.Statement.{statement}

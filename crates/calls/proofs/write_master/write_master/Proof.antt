@@ -3,10 +3,9 @@ use Prim.Native.Nat.{_+_, _-_, _<_}
 use native.Mathlib.Omega.{arith}
 use lib.ListN.{length, length-map}
 use borrow.Author.Needs.{needs}
-use Rattle.lines.specs.Nodes.{nodeAt}
-use Rattle.runs.specs.Runs.{linesOf}
-use Rattle.calls.specs.Parts.{handedLines}
-use Rattle.calls.proofs.WritingLines.{Fitting, Writing, writing-starts, writing-room, writing-goes-on, writing-ends}
+use Rattle.lines.specs.Theorems.WritingLines.{Fitting, Writing, writing-starts, writing-room, writing-goes-on, writing-ends}
+use Rattle.lines.specs.Engine.Starts.{nodeAt, linesOf}
+use Rattle.calls.specs.Engine.Parts.{handedLines}
 use Rattle.calls.proofs.HandedLines.{master-fits, master-at}
 use Rattle.calls.proofs.write_master.write_master.Statement.{statement}
 use Rattle.calls.proofs.write_master.write_master.Tie as tie

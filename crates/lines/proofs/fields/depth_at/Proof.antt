@@ -1,6 +1,6 @@
 -- The field's pair.
 use borrow.Author.Needs.{needs}
-use Rattle.lines.specs.Nodes.{nodeAt}
+use Rattle.lines.specs.Engine.Starts.{nodeAt}
 use Rattle.lines.proofs.fields.depth_at.Statement.{statement}
 use Rattle.lines.proofs.fields.depth_at.Tie as tie
 

@@ -1,7 +1,7 @@
 -- Both pairs, the high byte first.
 use native.Mathlib.Omega.{arith}
 use borrow.Author.Needs.{needs}
-use Rattle.lines.specs.Nodes.{nodeAt}
+use Rattle.lines.specs.Engine.Starts.{nodeAt}
 use Rattle.lines.proofs.fields.number_at.Statement.{statement}
 use Rattle.lines.proofs.fields.number_at.Tie as tie
 

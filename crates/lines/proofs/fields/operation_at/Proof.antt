@@ -1,6 +1,6 @@
 -- The field's pair.
 use borrow.Author.Needs.{needs}
-use Rattle.lines.specs.Entries.{entryAt}
+use Rattle.lines.specs.Engine.Starts.{entryAt}
 use Rattle.lines.proofs.fields.operation_at.Statement.{statement}
 use Rattle.lines.proofs.fields.operation_at.Tie as tie
 

@@ -8,12 +8,13 @@ use lib.ListN.{length, getD, drop}
 use borrow.Author.Needs.{needs}
 use borrow.Author.Tests.{not-true, not-false}
 use Rattle.lines.specs.Entries.{entryForm, entryLine}
-use Rattle.lines.specs.Hex.{pairAt, decode}
+use Rattle.lines.specs.Hex.{decode}
 use Rattle.lines.specs.Theorems.Lists.{take-rest}
 use Rattle.lines.specs.Theorems.Pairs.{length-decode, drop-decode, getD-decode}
 use Rattle.lines.specs.Theorems.TableRule.{unknown-operand}
 use Rattle.lines.specs.Theorems.Widths.{line-some}
 use Rattle.lines.specs.Lines.{isLine}
+use Rattle.lines.specs.Engine.Starts.{pairAt}
 use Rattle.lines.proofs.form.entry_line.Statement.{statement}
 use Rattle.lines.proofs.form.entry_line.Tie as tie
 

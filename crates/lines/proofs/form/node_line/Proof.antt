@@ -6,10 +6,11 @@ use native.Mathlib.Omega.{arith}
 use lib.ListN.{length, getD}
 use borrow.Author.Needs.{needs}
 use borrow.Author.Tests.{not-true, not-false, le-leb, lt-leb, eq-eqb, ne-eqb}
-use Rattle.lines.specs.Hex.{pairAt, decode}
+use Rattle.lines.specs.Hex.{decode}
 use Rattle.lines.specs.Theorems.Lists.{take-rest}
 use Rattle.lines.specs.Theorems.Pairs.{length-decode, drop-decode, getD-decode}
 use Rattle.lines.specs.Nodes.{nodeForm, nodeLine}
+use Rattle.lines.specs.Engine.Starts.{pairAt}
 use Rattle.lines.proofs.form.node_line.Statement.{statement}
 use Rattle.lines.proofs.form.node_line.Tie as tie
 

@@ -5,8 +5,9 @@ use native.Mathlib.Omega.{arith}
 use native.Mathlib.Numerals.{add-one}
 use lib.ListN.{getD, List·getD-eq-default}
 use borrow.Author.Needs.{needs}
-use Rattle.lines.specs.Hex.{hexValue, pairAt}
+use Rattle.lines.specs.Hex.{hexValue}
 use Rattle.lines.specs.Theorems.Pairs.{value-small}
+use Rattle.lines.specs.Engine.Starts.{pairAt}
 use Rattle.lines.proofs.hex.pair_at.Statement.{statement}
 use Rattle.lines.proofs.hex.pair_at.Tie as tie
 

@@ -1,21 +1,21 @@
 -- The first fault from line `k` on is the first of all.
 use mathlib.Core.Path.{_≡_, refl, sym, _∙_, ap}
-use mathlib.Core.List.{map}
 use mathlib.Core.Logic.{⊎-elim}
 use Prim.Native.Nat.{ℕ, _+_, _-_, _≤_}
 use native.Mathlib.Omega.{arith}
 use lib.ListN.{length, getD, drop}
 use borrow.Author.Needs.{needs}
 use borrow.Author.Tests.{not-true, not-false}
-use Rattle.lines.specs.Lines.{starts}
 use Rattle.lines.specs.Masters.{depthAfter, boundsFrom, masterBounds}
-use Rattle.lines.specs.Nodes.{isElement, nodeAt}
-use Rattle.lines.proofs.Masters.{nodes-none, nodes-one, bounds-fault, bounds-more, bounds-end, placed-low}
+use Rattle.lines.specs.Nodes.{isElement}
+use Rattle.lines.specs.Theorems.LinesAt.{nodes-none, nodes-one}
+use Rattle.lines.specs.Engine.Starts.{starts, nodeAt, linesOf}
+use Rattle.lines.proofs.Masters.{bounds-fault, bounds-more, bounds-end, placed-low}
 use Rattle.lines.proofs.master.bounds.Statement.{statement}
 use Rattle.lines.proofs.master.bounds.Tie as tie
 
 abbrev Inv-loop : tie.InvT-loop
-Inv-loop s starts most₀ k₀ most k = (k ≤ length starts) × (boundsFrom most k (map (nodeAt s) (drop k starts)) ≡ masterBounds (map (nodeAt s) starts))
+Inv-loop s starts most₀ k₀ most k = (k ≤ length starts) × (boundsFrom most k (linesOf s (drop k starts)) ≡ masterBounds (linesOf s starts))
 
 abbrev μ-loop : tie.MeasureT-loop
 μ-loop s starts most₀ k₀ most k = length starts - k

@@ -1,22 +1,22 @@
 -- The first mark from line `k` on is the first of all.
 use mathlib.Core.Path.{_≡_, refl, sym, _∙_}
 use mathlib.Core.Bool.{true, false}
-use mathlib.Core.List.{map}
 use Prim.Native.Nat.{_-_, _≤_}
 use native.Mathlib.Omega.{arith}
 use lib.ListN.{length, getD, drop}
 use borrow.Author.Needs.{needs}
 use borrow.Author.Tests.{eq-eqb, ne-eqb}
-use Rattle.lines.specs.Lines.{starts}
 use Rattle.lines.specs.Masters.{unmarked}
-use Rattle.lines.specs.Nodes.{isMarked, nodeAt}
+use Rattle.lines.specs.Nodes.{isMarked}
 use Rattle.lines.specs.Verdicts.{firstFrom}
-use Rattle.lines.proofs.Masters.{nodes-none, nodes-one, first-none, first-here, first-later}
+use Rattle.lines.specs.Theorems.FirstFault.{first-none, first-here, first-later}
+use Rattle.lines.specs.Theorems.LinesAt.{nodes-none, nodes-one}
+use Rattle.lines.specs.Engine.Starts.{starts, nodeAt, linesOf}
 use Rattle.lines.proofs.master.marks.Statement.{statement}
 use Rattle.lines.proofs.master.marks.Tie as tie
 
 abbrev Inv-loop : tie.InvT-loop
-Inv-loop s starts k₀ k = (k ≤ length starts) × (firstFrom isMarked k (map (nodeAt s) (drop k starts)) ≡ unmarked (map (nodeAt s) starts))
+Inv-loop s starts k₀ k = (k ≤ length starts) × (firstFrom isMarked k (linesOf s (drop k starts)) ≡ unmarked (linesOf s starts))
 
 abbrev μ-loop : tie.MeasureT-loop
 μ-loop s starts k₀ k = length starts - k

@@ -5,7 +5,7 @@ use native.Mathlib.Omega.{arith}
 use lib.ListN.{length, drop}
 use borrow.Author.Needs.{needs}
 use Rattle.lines.specs.Theorems.Cutting.{length-ends, length-goes-on, length-none}
-use Rattle.lines.specs.Lines.{lineLength}
+use Rattle.lines.specs.Engine.Starts.{lineLength}
 use Rattle.lines.proofs.scan.line_end.Statement.{statement}
 use Rattle.lines.proofs.scan.line_end.Tie as tie
 

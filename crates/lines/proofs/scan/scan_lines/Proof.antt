@@ -7,13 +7,14 @@ use native.Mathlib.Numerals.{add-one, lt-of-le-of-ne}
 use lib.ListN.{length, take, drop, length-set}
 use borrow.Author.Needs.{needs}
 use borrow.Author.Tests.{not-true, not-false}
-use Rattle.lines.specs.Files.{formOf, limitOf, scanFrom, scan, taken, Scanned}
+use Rattle.lines.specs.Files.{formOf, limitOf, scanFrom, scan}
 use Rattle.lines.specs.Theorems.Cutting.{cut-none, end-within, end-beyond, line-long, cut-at}
 use Rattle.lines.specs.Theorems.Widths.{form-width, limit-small, width-small, scan-few}
-use Rattle.lines.specs.Lines.{lineLength, cut, startsFrom, starts}
+use Rattle.lines.specs.Lines.{cut}
 use Rattle.lines.proofs.Scans.{scan-full, scan-wrong, scan-more, scan-end, drop-next, note-more}
 use Rattle.lines.specs.declared.scan.File.{File}
 use Rattle.lines.specs.declared.scan.Scan.{Scan}
+use Rattle.lines.specs.Engine.Starts.{taken, Scanned, lineLength, startsFrom, starts}
 use Rattle.lines.proofs.scan.scan_lines.Statement.{statement}
 use Rattle.lines.proofs.scan.scan_lines.Tie as tie
 

@@ -4,7 +4,8 @@ use Prim.Native.Nat.{_-_, _≤_}
 use native.Mathlib.Omega.{arith}
 use lib.ListN.{drop}
 use borrow.Author.Needs.{needs}
-use Rattle.lines.specs.Texts.{textAt, sameText}
+use Rattle.lines.specs.Texts.{sameText}
+use Rattle.lines.specs.Engine.Starts.{textAt}
 use Rattle.lines.proofs.Views.{text-differs, text-goes-on, text-ends, text-lengths}
 use Rattle.lines.proofs.texts.same_text.Statement.{statement}
 use Rattle.lines.proofs.texts.same_text.Tie as tie

@@ -4,9 +4,8 @@ use Prim.Native.Nat.{_+_}
 use native.Mathlib.Omega.{arith}
 use lib.ListN.{List·getD-eq-default}
 use borrow.Author.Needs.{needs}
-use Rattle.lines.specs.Hex.{pairAt}
 use Rattle.lines.specs.Theorems.Reading.{getD-bytes, length-text}
-use Rattle.lines.specs.Texts.{textAt}
+use Rattle.lines.specs.Engine.Starts.{pairAt, textAt}
 use Rattle.lines.proofs.texts.text_byte.Statement.{statement}
 use Rattle.lines.proofs.texts.text_byte.Tie as tie
 

@@ -2,7 +2,7 @@
 use mathlib.Core.Path.{sym, _∙_}
 use borrow.Author.Needs.{needs}
 use Rattle.lines.specs.Theorems.Reading.{length-bytes}
-use Rattle.lines.specs.Texts.{textAt}
+use Rattle.lines.specs.Engine.Starts.{textAt}
 use Rattle.lines.proofs.texts.text_len.Statement.{statement}
 use Rattle.lines.proofs.texts.text_len.Tie as tie
 

@@ -1,18 +1,17 @@
 -- The first difference from line `i` on is the first of all; a text's bytes from `j` on are the same as the whole texts are.
 use mathlib.Core.Path.{_≡_, refl, sym, _∙_}
 use mathlib.Core.Bool.{true, false}
-use mathlib.Core.List.{map}
 use mathlib.Core.Logic.{⊎-elim}
 use Prim.Native.Nat.{_-_, _≤_}
 use native.Mathlib.Omega.{arith}
 use lib.ListN.{length, getD, drop}
 use borrow.Author.Needs.{needs}
 use borrow.Author.Tests.{not-true, not-false}
-use Rattle.lines.specs.Nodes.{nodeAt}
-use Rattle.lines.specs.Texts.{textAt, sameText}
+use Rattle.lines.specs.Texts.{sameText}
 use Rattle.lines.specs.Views.{sameLine, differenceFrom, firstDifference}
-use Rattle.lines.proofs.Masters.{nodes-none, nodes-one}
-use Rattle.lines.proofs.Views.{text-differs, text-goes-on, text-ends, text-lengths, text-of, line-head, line-changed, line-text, no-difference, view-short}
+use Rattle.lines.specs.Theorems.LinesAt.{nodes-none, nodes-one, text-at}
+use Rattle.lines.specs.Engine.Starts.{nodeAt, linesOf, textAt}
+use Rattle.lines.proofs.Views.{text-differs, text-goes-on, text-ends, text-lengths, line-head, line-changed, line-text, no-difference, view-short}
 use Rattle.lines.proofs.Views.{view-long, difference-here, difference-later}
 use Rattle.lines.proofs.view.difference.Statement.{statement}
 use Rattle.lines.proofs.view.difference.Tie as tie
@@ -25,8 +24,8 @@ abbrev μ-loop : tie.MeasureT-loop
 
 abbrev Inv-lines : tie.InvT-lines
 Inv-lines view vs fresh fs i₀ i =
-    (i ≤ length vs) × (i ≤ length fs) × (differenceFrom i (map (nodeAt view) (drop i vs)) (map (nodeAt fresh) (drop i fs)) ≡ firstDifference
-    (map (nodeAt view) vs) (map (nodeAt fresh) fs))
+    (i ≤ length vs) × (i ≤ length fs) × (differenceFrom i (linesOf view (drop i vs)) (linesOf fresh (drop i fs)) ≡ firstDifference
+    (linesOf view vs) (linesOf fresh fs))
 
 abbrev μ-lines : tie.MeasureT-lines
 μ-lines view vs fresh fs i₀ i = length vs - i
@@ -61,8 +60,8 @@ lines-again c =
     let vs = nodes-one (nodeAt (a .view .now)) (a .vs .now) i (omega arith) in
     let fs = nodes-one (nodeAt (a .fresh .now)) (a .fs .now) i (omega arith) in
     let head = sym (after-mark-at .before .before .same-head .ensures) ∙ not-false _ (after-mark-at .before .if4 .left) in
-    let same : sameLine v f ≡ true = ⊎-elim (λ w. let x = text-of (a .view .now) _ (w .1 .result) (w .1 .ensures) in let y = text-of (a .fresh .now) _
-    (w .2 .result) (w .2 .ensures) in let ends = text-ends _ _ (w .6 .j) (omega (arith, w .3 .ensures, w .7 .left))
+    let same : sameLine v f ≡ true = ⊎-elim (λ w. let x = text-at (a .view .now) _ (w .1 .ensures) in let y = text-at (a .fresh .now) _ (w .2 .ensures) in
+    let ends = text-ends _ _ (w .6 .j) (omega (arith, w .3 .ensures, w .7 .left))
     (omega (arith, w .3 .ensures, w .4 .ensures, w .5 .left, w .7 .left)) in line-text v f head
     (λ e. w .0 .taken (after-mark-at .mark-at .ensures ∙ e)) ∙ rw (← x, ← y) (sym (w .6 .inv .1) ∙ ends))
     (λ w. line-changed v f head (sym (after-mark-at .mark-at .ensures) ∙ w .left)) (c .if5 .came) in
@@ -115,8 +114,8 @@ returns-5 c =
     let fs = nodes-one (nodeAt (a .fresh .now)) (a .fs .now) i (omega arith) in
     let head = sym (else4 .before .same-head .ensures) ∙ not-false _ (else4 .if4 .left) in
     let plain : v .mark ≡ 1 → ⊥ = λ e. after-node-text .before .if5 .taken (after-node-text .before .before .mark-at .ensures ∙ e) in
-    let x = text-of (a .view .now) _ (after-node-text .node-text .result) (after-node-text .node-text .ensures) in
-    let y = text-of (a .fresh .now) _ (after-node-text2 .node-text2 .result) (after-node-text2 .node-text2 .ensures) in
+    let x = text-at (a .view .now) _ (after-node-text .node-text .ensures) in
+    let y = text-at (a .fresh .now) _ (after-node-text2 .node-text2 .ensures) in
     let differs : sameText (v .text) (f .text) ≡ false = rw (← x, ← y)
     (text-lengths _ _ (λ e. c .if6 .taken (c .before .before .text-len .ensures ∙ (e ∙ sym (c .before .text-len2 .ensures))))) in
     sym (rw (vs, fs) (difference-here i v f _ _ (line-text v f head plain ∙ differs))) ∙ at-lines .lines .inv .2
@@ -136,8 +135,8 @@ returns-6 c =
     let fs = nodes-one (nodeAt (a .fresh .now)) (a .fs .now) i (omega arith) in
     let head = sym (else4 .before .same-head .ensures) ∙ not-false _ (else4 .if4 .left) in
     let plain : v .mark ≡ 1 → ⊥ = λ e. after-node-text .before .if5 .taken (after-node-text .before .before .mark-at .ensures ∙ e) in
-    let x = text-of (a .view .now) _ (after-node-text .node-text .result) (after-node-text .node-text .ensures) in
-    let y = text-of (a .fresh .now) _ (after-node-text2 .node-text2 .result) (after-node-text2 .node-text2 .ensures) in
+    let x = text-at (a .view .now) _ (after-node-text .node-text .ensures) in
+    let y = text-at (a .fresh .now) _ (after-node-text2 .node-text2 .ensures) in
     let differs : sameText (v .text) (f .text) ≡ false = rw (← x, ← y)
     (sym (at-loop .loop .inv .1) ∙ text-differs _ _ (at-loop .loop .j) (omega arith) (omega arith)
     (λ e. c .if7 .taken (c .before .before .text-byte .ensures ∙ (e ∙ sym (c .before .text-byte2 .ensures))))) in

@@ -1,19 +1,19 @@
 -- The first mark from line `i` on is the first of all.
 use mathlib.Core.Path.{_≡_, refl, sym, _∙_}
-use mathlib.Core.List.{map}
 use Prim.Native.Nat.{_-_, _≤_}
 use native.Mathlib.Omega.{arith}
 use lib.ListN.{length, drop}
 use borrow.Author.Needs.{needs}
-use Rattle.lines.specs.Nodes.{nodeAt}
 use Rattle.lines.specs.Verdicts.{firstFrom}
 use Rattle.lines.specs.Views.{programMarked, programMark}
-use Rattle.lines.proofs.Masters.{nodes-none, nodes-one, first-none, first-here, first-later}
+use Rattle.lines.specs.Theorems.FirstFault.{first-none, first-here, first-later}
+use Rattle.lines.specs.Theorems.LinesAt.{nodes-none, nodes-one}
+use Rattle.lines.specs.Engine.Starts.{nodeAt, linesOf}
 use Rattle.lines.proofs.view.program_mark.Statement.{statement}
 use Rattle.lines.proofs.view.program_mark.Tie as tie
 
 abbrev Inv-loop : tie.InvT-loop
-Inv-loop view vs i₀ i = (i ≤ length vs) × (firstFrom programMarked i (map (nodeAt view) (drop i vs)) ≡ programMark (map (nodeAt view) vs))
+Inv-loop view vs i₀ i = (i ≤ length vs) × (firstFrom programMarked i (linesOf view (drop i vs)) ≡ programMark (linesOf view vs))
 
 abbrev μ-loop : tie.MeasureT-loop
 μ-loop view vs i₀ i = length vs - i

@@ -7,7 +7,7 @@ use lib.ListN.{length, take}
 use lib.Seq.{sets, take-all}
 use borrow.Author.Needs.{needs}
 use Rattle.lines.specs.Hex.{encode}
-use Rattle.lines.specs.Texts.{textAt}
+use Rattle.lines.specs.Engine.Starts.{textAt}
 use Rattle.lines.proofs.Writes.{put-next}
 use Rattle.lines.proofs.write.put_text.Statement.{statement}
 use Rattle.lines.proofs.write.put_text.Tie as tie

@@ -6,8 +6,9 @@ use native.Mathlib.Omega.{arith}
 use lib.ListN.{length, length-set}
 use borrow.Author.Needs.{needs}
 use Rattle.lines.specs.Theorems.RoundTrip.{length-line}
-use Rattle.lines.specs.Texts.{textAt}
-use Rattle.lines.specs.Writing.{bytesOf, headed}
+use Rattle.lines.specs.Writing.{bytesOf}
+use Rattle.lines.specs.Engine.Starts.{textAt}
+use Rattle.lines.specs.Engine.Writes.{headed}
 use Rattle.lines.proofs.Writes.{put-more, put-end}
 use Rattle.lines.proofs.write.write_line.Statement.{statement}
 use Rattle.lines.proofs.write.write_line.Tie as tie

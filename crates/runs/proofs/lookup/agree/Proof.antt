@@ -1,7 +1,7 @@
 -- The source text is where its place says, and an empty part has the empty text.
 use borrow.Author.Needs.{needs}
-use Rattle.lines.specs.Hex.{hexValue, pairAt}
-use Rattle.lines.specs.Texts.{bytesFrom, textAt}
+use Rattle.lines.specs.Hex.{hexValue}
+use Rattle.lines.specs.Engine.Starts.{pairAt, bytesFrom, textAt}
 use Rattle.runs.proofs.lookup.agree.Statement.{statement}
 use Rattle.runs.proofs.lookup.agree.Tie as tie
 

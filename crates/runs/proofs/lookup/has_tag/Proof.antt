@@ -1,7 +1,7 @@
 -- The tag is where its place says, and an empty part has the empty text.
 use borrow.Author.Needs.{needs}
-use Rattle.lines.specs.Hex.{hexValue, pairAt}
-use Rattle.lines.specs.Texts.{bytesFrom, textAt}
+use Rattle.lines.specs.Hex.{hexValue}
+use Rattle.lines.specs.Engine.Starts.{pairAt, bytesFrom, textAt}
 use Rattle.runs.proofs.lookup.has_tag.Statement.{statement}
 use Rattle.runs.proofs.lookup.has_tag.Tie as tie
 

@@ -3,8 +3,7 @@ use mathlib.Core.Path.{sym, _∙_, ap}
 use Prim.Native.Nat.{_-_, _%_}
 use lib.ListN.{getD}
 use borrow.Author.Needs.{needs}
-use Rattle.lines.specs.Entries.{operandAt}
-use Rattle.lines.specs.Texts.{textAt}
+use Rattle.lines.specs.Engine.Starts.{operandAt, textAt}
 use Rattle.runs.proofs.Lookups.{shape-is, operand-text, text-line, text-no-line, text-entry, text-no-entry}
 use Rattle.runs.proofs.lookup.text_of_word.Statement.{statement}
 use Rattle.runs.proofs.lookup.text_of_word.Tie as tie

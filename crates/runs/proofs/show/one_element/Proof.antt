@@ -1,7 +1,8 @@
 -- One top node first, then its kind.
 use native.Mathlib.Omega.{arith}
 use borrow.Author.Needs.{needs}
-use Rattle.runs.specs.Runs.{entriesOf, linesOf, madeBy, lookupOf}
+use Rattle.lines.specs.Engine.Starts.{linesOf, entriesOf}
+use Rattle.runs.specs.Engine.Runs.{madeBy, lookupOf}
 use Rattle.runs.proofs.ShowSources.{found-yes, found-no, top-words, says-element, says-no-element}
 use Rattle.runs.proofs.show.one_element.Statement.{statement}
 use Rattle.runs.proofs.show.one_element.Tie as tie

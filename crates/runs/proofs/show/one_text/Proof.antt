@@ -1,6 +1,7 @@
 -- One node, no element.
 use borrow.Author.Needs.{needs}
-use Rattle.runs.specs.Runs.{entriesOf, linesOf, madeBy, lookupOf}
+use Rattle.lines.specs.Engine.Starts.{linesOf, entriesOf}
+use Rattle.runs.specs.Engine.Runs.{madeBy, lookupOf}
 use Rattle.runs.proofs.ShowSources.{says-text, says-no-text}
 use Rattle.runs.proofs.show.one_text.Statement.{statement}
 use Rattle.runs.proofs.show.one_text.Tie as tie

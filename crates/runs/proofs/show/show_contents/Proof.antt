@@ -5,10 +5,11 @@ use mathlib.Core.Logic.{inr}
 use Prim.Native.Nat.{_<_}
 use native.Mathlib.Omega.{arith}
 use borrow.Author.Needs.{needs}
+use Rattle.lines.specs.Engine.Starts.{linesOf, entriesOf}
 use Rattle.values.specs.Values.{Lookup}
-use Rattle.values.specs.Words.{Made, valueAt}
-use Rattle.runs.specs.Runs.{entriesOf, linesOf, madeBy, lookupOf}
-use Rattle.runs.specs.Leaves.{isOneElement}
+use Rattle.values.specs.Engine.Words.{Made, valueAt}
+use Rattle.runs.specs.Engine.Runs.{madeBy, lookupOf}
+use Rattle.runs.specs.Engine.Leaves.{isOneElement}
 use Rattle.runs.proofs.ShowLeaves.{no-contents, contents-put}
 use Rattle.runs.proofs.ShowSources.{found-yes, found-no, element-words}
 use Rattle.runs.proofs.show.show_contents.Statement.{statement}

@@ -3,11 +3,12 @@ use mathlib.Core.Path.{_≡_, ap}
 use mathlib.Core.Bool.{true}
 use native.Mathlib.Omega.{arith}
 use borrow.Author.Needs.{needs}
-use Rattle.values.specs.Words.{Made, valueAt}
+use Rattle.lines.specs.Engine.Starts.{entriesOf}
+use Rattle.values.specs.Engine.Words.{Made, valueAt}
 use Rattle.runs.specs.Results.{gives}
-use Rattle.runs.specs.Runs.{entriesOf, madeBy}
+use Rattle.runs.specs.Engine.Runs.{madeBy}
 use Rattle.runs.specs.Showing.{test}
-use Rattle.runs.specs.Leaves.{isOneTop}
+use Rattle.runs.specs.Engine.Leaves.{isOneTop}
 use Rattle.runs.proofs.ShowSources.{found-yes, found-no, no-top-one, top-words, words-top}
 use Rattle.runs.proofs.show.test_element.Statement.{statement}
 use Rattle.runs.proofs.show.test_element.Tie as tie

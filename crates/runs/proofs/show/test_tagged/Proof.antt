@@ -5,14 +5,14 @@ use Prim.Native.Nat.{_<_}
 use native.Mathlib.Omega.{arith}
 use lib.ListN.{length, length-map}
 use borrow.Author.Needs.{needs}
-use Rattle.lines.specs.Entries.{entryAt}
 use Rattle.lines.specs.Texts.{sameText}
+use Rattle.lines.specs.Engine.Starts.{linesOf, entryAt, entriesOf}
 use Rattle.values.specs.Values.{Lookup}
-use Rattle.values.specs.Words.{Made, valueAt}
+use Rattle.values.specs.Engine.Words.{Made, valueAt}
 use Rattle.runs.specs.Results.{gives}
-use Rattle.runs.specs.Runs.{entriesOf, linesOf, madeBy, lookupOf}
+use Rattle.runs.specs.Engine.Runs.{madeBy, lookupOf}
 use Rattle.runs.specs.Showing.{test}
-use Rattle.runs.specs.Leaves.{isOneElement}
+use Rattle.runs.specs.Engine.Leaves.{isOneElement}
 use Rattle.runs.proofs.Lookups.{tag-bytes}
 use Rattle.runs.proofs.ShowSources.{found-yes, found-no, no-element-one, element-words, words-element}
 use Rattle.runs.proofs.Trees.{in-entries}

@@ -2,7 +2,7 @@
 use mathlib.Core.Path.{_≡_, refl, _∙_}
 use Prim.Native.Nat.{_≤_}
 use native.Mathlib.Omega.{arith}
-use Rattle.runs.specs.SlotWords.{innermost}
+use Rattle.runs.specs.Engine.SlotWords.{innermost}
 use Rattle.runs.proofs.SlotLaws.{innermost-here, innermost-outer, innermost-none}
 use Rattle.runs.proofs.slots.find.Statement.{statement}
 use Rattle.runs.proofs.slots.find.Tie as tie

@@ -2,7 +2,7 @@
 use native.Mathlib.Omega.{arith}
 use lib.ListN.{length-map}
 use borrow.Author.Needs.{needs}
-use Rattle.runs.specs.Checking.{roomOf}
+use Rattle.runs.specs.Engine.Checking.{roomOf}
 use Rattle.runs.proofs.TreeCheckWhole.{whole-fault, whole-left, whole-ended}
 use Rattle.runs.proofs.tree.check_program.Statement.{statement}
 use Rattle.runs.proofs.tree.check_program.Tie as tie

@@ -3,7 +3,7 @@ use mathlib.Core.Path.{_≡_, refl}
 use mathlib.Core.Bool.{Bool, true, false, not}
 use borrow.Author.Needs.{needs}
 use Rattle.lines.specs.declared.table.Class.the-variants.{Transformation, Test, Unknown}
-use Rattle.runs.specs.Ends.{stands}
+use Rattle.runs.specs.Engine.Ends.{stands}
 use Rattle.runs.proofs.tree.is_asked.Statement.{statement}
 use Rattle.runs.proofs.tree.is_asked.Tie as tie
 

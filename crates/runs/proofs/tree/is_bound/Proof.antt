@@ -3,7 +3,7 @@ use mathlib.Core.Path.{_≡_, refl, sym, _∙_}
 use Prim.Native.Nat.{_≤_}
 use native.Mathlib.Omega.{arith}
 use Rattle.values.specs.Values.{among}
-use Rattle.runs.specs.Checking.{slotsOf}
+use Rattle.runs.specs.Engine.Checking.{slotsOf}
 use Rattle.runs.proofs.TreeCheckRooms.{bound-here, bound-further}
 use Rattle.runs.proofs.tree.is_bound.Statement.{statement}
 use Rattle.runs.proofs.tree.is_bound.Tie as tie

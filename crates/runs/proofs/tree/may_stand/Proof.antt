@@ -2,7 +2,7 @@
 use mathlib.Core.Path.{_≡_}
 use native.Mathlib.Omega.{arith}
 use borrow.Author.Tests.{ne-eqb}
-use Rattle.runs.specs.Checking.{mayStand}
+use Rattle.runs.specs.Engine.Checking.{mayStand}
 use Rattle.runs.proofs.tree.may_stand.Statement.{statement}
 use Rattle.runs.proofs.tree.may_stand.Tie as tie
 

@@ -2,7 +2,7 @@
 use mathlib.Core.Path.{_≡_}
 use native.Mathlib.Omega.{arith}
 use borrow.Author.Tests.{leb-true, ne-eqb}
-use Rattle.runs.specs.Checking.{mayStand, inside}
+use Rattle.runs.specs.Engine.Checking.{mayStand, roomInside}
 use Rattle.runs.proofs.tree.room_below.Statement.{statement}
 use Rattle.runs.proofs.tree.room_below.Tie as tie
 
@@ -23,21 +23,21 @@ inside-bind-requires c κs =
     (s .pre .0, leb-true 1 _ (rw o at (s .pre .1)))
 
 returns : tie.Need-returns
-unfolding inside
+unfolding roomInside
 returns c =
     let b = c .before .before .args .operation in
     let o : b ≡ 0x0A = omega arith in
     (c .inside-each .ensures .0, rw o (c .inside-each .ensures .1))
 
 returns-2 : tie.Need-returns-2
-unfolding inside
+unfolding roomInside
 returns-2 c =
     let b = c .before .before .args .operation in
     let o : b ≡ 0x0C = omega arith in
     (c .inside-bind .ensures .0, rw o (c .inside-bind .ensures .1))
 
 returns-3 : tie.Need-returns-3
-unfolding inside
+unfolding roomInside
 returns-3 c =
     let s = c .before in
     let b = s .args .operation in

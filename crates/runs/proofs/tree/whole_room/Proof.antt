@@ -1,7 +1,7 @@
 -- No slot is bound yet.
 use mathlib.Core.Path.{refl}
 use native.Mathlib.Omega.{arith}
-use Rattle.runs.specs.Checking.{slotsOf}
+use Rattle.runs.specs.Engine.Checking.{slotsOf}
 use Rattle.runs.proofs.tree.whole_room.Statement.{statement}
 use Rattle.runs.proofs.tree.whole_room.Tie as tie
 

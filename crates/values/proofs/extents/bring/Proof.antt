@@ -2,9 +2,9 @@
 use mathlib.Core.Path.{sym}
 use Prim.Native.Nat.{_-_}
 use native.Mathlib.Omega.{arith}
+use Rattle.lines.specs.Theorems.PutAt.{Putting, putting-starts, putting-goes-on, putting-ends}
 use Rattle.values.specs.Theorems.Extents.{length-part, getD-part}
-use Rattle.values.specs.Words.{part}
-use Rattle.values.proofs.Loops.{Putting, putting-starts, putting-goes-on, putting-ends}
+use Rattle.values.specs.Engine.Words.{part}
 use Rattle.values.proofs.extents.bring.Statement.{statement}
 use Rattle.values.proofs.extents.bring.Tie as tie
 

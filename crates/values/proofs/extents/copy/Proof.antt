@@ -2,9 +2,10 @@
 use mathlib.Core.Path.{sym, _∙_}
 use Prim.Native.Nat.{_+_, _-_}
 use native.Mathlib.Omega.{arith}
+use Rattle.lines.specs.Theorems.PutAt.{Putting, putting-starts, putting-goes-on, putting-ends, putting-reads}
 use Rattle.values.specs.Theorems.Extents.{length-part, getD-part}
-use Rattle.values.specs.Words.{part}
-use Rattle.values.proofs.Loops.{Putting, putting-starts, putting-goes-on, putting-ends, putting-reads, apart}
+use Rattle.values.specs.Engine.Words.{part}
+use Rattle.values.proofs.Loops.{apart}
 use Rattle.values.proofs.extents.copy.Statement.{statement}
 use Rattle.values.proofs.extents.copy.Tie as tie
 

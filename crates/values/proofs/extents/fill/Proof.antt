@@ -3,7 +3,7 @@ use mathlib.Core.Path.{sym}
 use Prim.Native.Nat.{_-_}
 use native.Mathlib.Omega.{arith}
 use lib.ListN.{replicate, length-replicate, getD-replicate}
-use Rattle.values.proofs.Loops.{Putting, putting-starts, putting-goes-on, putting-ends}
+use Rattle.lines.specs.Theorems.PutAt.{Putting, putting-starts, putting-goes-on, putting-ends}
 use Rattle.values.proofs.extents.fill.Statement.{statement}
 use Rattle.values.proofs.extents.fill.Tie as tie
 

@@ -4,7 +4,7 @@ use Prim.Native.Nat.{_+_, _-_, _≤_}
 use native.Mathlib.Omega.{arith}
 use lib.ListN.{getD}
 use Rattle.values.specs.Values.{made, shallow}
-use Rattle.values.specs.Words.{Made, valueAt}
+use Rattle.values.specs.Engine.Words.{Made, valueAt}
 use Rattle.values.proofs.Loops.{rest-all, rest-none, rest-cons, deep-here, deep-later, deep-none}
 use Rattle.values.proofs.nodes.is_shallow.Statement.{statement}
 use Rattle.values.proofs.nodes.is_shallow.Tie as tie

@@ -1,6 +1,6 @@
 --
 use borrow.Author.Tests.{lt-ltb, le-ltb}
-use Rattle.values.specs.Words.{loweredWord}
+use Rattle.values.specs.Engine.Words.{loweredWord}
 use Rattle.values.proofs.nodes.lowered_word.Statement.{statement}
 use Rattle.values.proofs.nodes.lowered_word.Tie as tie
 

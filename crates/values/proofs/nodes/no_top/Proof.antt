@@ -2,7 +2,7 @@
 use mathlib.Core.Path.{sym, _∙_, ap₂}
 use lib.Dec.{eqb}
 use borrow.Author.Needs.{needs}
-use Rattle.values.specs.Words.{valueAt}
+use Rattle.values.specs.Engine.Words.{valueAt}
 use Rattle.values.specs.Theorems.Items.{all-under}
 use Rattle.values.specs.Theorems.WordLaws.{length-value}
 use Rattle.values.proofs.nodes.no_top.Statement.{statement}

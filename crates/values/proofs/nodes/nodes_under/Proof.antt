@@ -4,7 +4,7 @@ use Prim.Native.Nat.{_+_, _-_, _≤_}
 use native.Mathlib.Omega.{arith}
 use lib.ListN.{length}
 use Rattle.values.specs.Values.{Value, under}
-use Rattle.values.specs.Words.{Made, valueAt}
+use Rattle.values.specs.Engine.Words.{Made, valueAt}
 use Rattle.values.proofs.Loops.{rest-all, under-top, under-more, under-end}
 use Rattle.values.proofs.nodes.nodes_under.Statement.{statement}
 use Rattle.values.proofs.nodes.nodes_under.Tie as tie

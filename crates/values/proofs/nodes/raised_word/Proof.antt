@@ -1,7 +1,7 @@
 --
 use borrow.Author.Needs.{needs}
 use borrow.Author.Tests.{lt-ltb, le-ltb}
-use Rattle.values.specs.Words.{raisedWord}
+use Rattle.values.specs.Engine.Words.{raisedWord}
 use Rattle.values.proofs.nodes.raised_word.Statement.{statement}
 use Rattle.values.proofs.nodes.raised_word.Tie as tie
 

@@ -4,8 +4,9 @@ use mathlib.Core.List.{map}
 use Prim.Native.Nat.{_+_, _-_}
 use native.Mathlib.Omega.{arith}
 use borrow.Author.Needs.{needs}
-use Rattle.values.specs.Words.{part, leveledWord}
-use Rattle.values.proofs.Loops.{Putting, putting-starts, putting-goes-on, putting-ends, putting-reads, apart, mapped-long, mapped-at}
+use Rattle.lines.specs.Theorems.PutAt.{Putting, putting-starts, putting-goes-on, putting-ends, putting-reads}
+use Rattle.values.specs.Engine.Words.{part, leveledWord}
+use Rattle.values.proofs.Loops.{apart, mapped-long, mapped-at}
 use Rattle.values.proofs.nodes.relevel.Statement.{statement}
 use Rattle.values.proofs.nodes.relevel.Tie as tie
 

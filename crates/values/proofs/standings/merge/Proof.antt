@@ -4,9 +4,11 @@ use mathlib.Core.Logic.{inr}
 use Prim.Native.Nat.{_+_, _-_}
 use native.Mathlib.Omega.{arith}
 use borrow.Author.Needs.{needs}
+use Rattle.lines.specs.Theorems.PutAt.{Putting, putting-starts, putting-goes-on, putting-ends, putting-reads}
 use Rattle.values.specs.Theorems.Extents.{length-part}
-use Rattle.values.specs.Words.{part, mergedWord, mergedWords}
-use Rattle.values.proofs.Loops.{Putting, putting-starts, putting-goes-on, putting-ends, putting-reads, merged-long, merged-at, beside}
+use Rattle.values.specs.Engine.Words.{part, mergedWord, mergedWords}
+use Rattle.values.specs.Theorems.WordLaws.{merged-length}
+use Rattle.values.proofs.Loops.{merged-at, beside}
 use Rattle.values.proofs.standings.merge.Statement.{statement}
 use Rattle.values.proofs.standings.merge.Tie as tie
 
@@ -20,7 +22,7 @@ loop-holds : tie.Need-loop-holds Inv-loop μ-loop
 loop-holds c =
     let a = c .before .args in
     putting-starts (a .work .now) (a .to) _ (a .len)
-    (merged-long (part (a .work .now) (a .to) (a .len)) (part (a .work .now) (a .from) (a .len))
+    (merged-length (part (a .work .now) (a .to) (a .len)) (part (a .work .now) (a .from) (a .len))
     (length-part (a .work .now) (a .to) (a .len) (omega arith) ∙ sym (length-part (a .work .now) (a .from) (a .len) (omega arith))) ∙ length-part
     (a .work .now) (a .to) (a .len) (omega arith)) (omega arith)
 
@@ -64,16 +66,16 @@ loop-again c =
     let s = at-loop .before .before in
     let a = s .args in
     putting-goes-on (a .work .now) (a .to) _ (a .len)
-    (merged-long (part (a .work .now) (a .to) (a .len)) (part (a .work .now) (a .from) (a .len))
+    (merged-length (part (a .work .now) (a .to) (a .len)) (part (a .work .now) (a .from) (a .len))
     (length-part (a .work .now) (a .to) (a .len) (omega arith) ∙ sym (length-part (a .work .now) (a .from) (a .len) (omega arith))) ∙ length-part
     (a .work .now) (a .to) (a .len) (omega arith)) (omega arith) (at-loop .loop .inv) (in-loop .loop-test .taken)
     (c .merge-word .ensures ∙ (ap₂ mergedWord
     (putting-reads (a .work .now) (a .to) _ (a .len)
-    (merged-long (part (a .work .now) (a .to) (a .len)) (part (a .work .now) (a .from) (a .len))
+    (merged-length (part (a .work .now) (a .to) (a .len)) (part (a .work .now) (a .from) (a .len))
     (length-part (a .work .now) (a .to) (a .len) (omega arith) ∙ sym (length-part (a .work .now) (a .from) (a .len) (omega arith))) ∙ length-part
     (a .work .now) (a .to) (a .len) (omega arith)) (omega arith) (at-loop .loop .inv) (a .to + at-loop .loop .i) (inr (omega arith)))
     (putting-reads (a .work .now) (a .to) _ (a .len)
-    (merged-long (part (a .work .now) (a .to) (a .len)) (part (a .work .now) (a .from) (a .len))
+    (merged-length (part (a .work .now) (a .to) (a .len)) (part (a .work .now) (a .from) (a .len))
     (length-part (a .work .now) (a .to) (a .len) (omega arith) ∙ sym (length-part (a .work .now) (a .from) (a .len) (omega arith))) ∙ length-part
     (a .work .now) (a .to) (a .len) (omega arith)) (omega arith) (at-loop .loop .inv) (a .from + at-loop .loop .i)
     (beside (a .from) (a .to) (a .len) (at-loop .loop .i) (s .pre .1) (in-loop .loop-test .taken))) ∙ sym
@@ -86,7 +88,7 @@ returns : tie.Need-returns Inv-loop μ-loop
 returns c =
     let a = c .before .before .before .args in
     putting-ends (a .work .now) (a .to) _ (a .len)
-    (merged-long (part (a .work .now) (a .to) (a .len)) (part (a .work .now) (a .from) (a .len))
+    (merged-length (part (a .work .now) (a .to) (a .len)) (part (a .work .now) (a .from) (a .len))
     (length-part (a .work .now) (a .to) (a .len) (omega arith) ∙ sym (length-part (a .work .now) (a .from) (a .len) (omega arith))) ∙ length-part
     (a .work .now) (a .to) (a .len) (omega arith)) (omega arith) (c .before .loop .inv) (c .loop-test .left)
 

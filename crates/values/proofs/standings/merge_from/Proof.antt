@@ -5,9 +5,11 @@ use Prim.Native.Nat.{ℕ, _+_, _-_}
 use native.Mathlib.Omega.{arith}
 use lib.ListN.{getD}
 use borrow.Author.Needs.{needs}
+use Rattle.lines.specs.Theorems.PutAt.{Putting, putting-starts, putting-goes-on, putting-ends, putting-reads}
 use Rattle.values.specs.Theorems.Extents.{length-part}
-use Rattle.values.specs.Words.{part, mergedWord, mergedWords}
-use Rattle.values.proofs.Loops.{Putting, putting-starts, putting-goes-on, putting-ends, putting-reads, merged-long, merged-at}
+use Rattle.values.specs.Engine.Words.{part, mergedWord, mergedWords}
+use Rattle.values.specs.Theorems.WordLaws.{merged-length}
+use Rattle.values.proofs.Loops.{merged-at}
 use Rattle.values.proofs.standings.merge_from.Statement.{statement}
 use Rattle.values.proofs.standings.merge_from.Tie as tie
 
@@ -21,7 +23,7 @@ loop-holds : tie.Need-loop-holds Inv-loop μ-loop
 loop-holds c =
     let a = c .before .before .args in
     putting-starts (a .work .now) (a .to) _ (a .len)
-    (merged-long (part (a .work .now) (a .to) (a .len)) (part (a .other .now) (a .from) (a .len))
+    (merged-length (part (a .work .now) (a .to) (a .len)) (part (a .other .now) (a .from) (a .len))
     (length-part (a .work .now) (a .to) (a .len) (omega arith) ∙ sym (length-part (a .other .now) (a .from) (a .len) (omega arith))) ∙ length-part
     (a .work .now) (a .to) (a .len) (omega arith)) (omega arith)
 
@@ -64,12 +66,12 @@ loop-again c =
     let at-loop = in-loop .before in
     let a = at-loop .before .before .before .args in
     putting-goes-on (a .work .now) (a .to) _ (a .len)
-    (merged-long (part (a .work .now) (a .to) (a .len)) (part (a .other .now) (a .from) (a .len))
+    (merged-length (part (a .work .now) (a .to) (a .len)) (part (a .other .now) (a .from) (a .len))
     (length-part (a .work .now) (a .to) (a .len) (omega arith) ∙ sym (length-part (a .other .now) (a .from) (a .len) (omega arith))) ∙ length-part
     (a .work .now) (a .to) (a .len) (omega arith)) (omega arith) (at-loop .loop .inv) (in-loop .loop-test .taken)
     (c .merge-word .ensures ∙ (ap (λ (x : ℕ). mergedWord x (getD (a .other .now) (a .from + at-loop .loop .i) 0))
     (putting-reads (a .work .now) (a .to) _ (a .len)
-    (merged-long (part (a .work .now) (a .to) (a .len)) (part (a .other .now) (a .from) (a .len))
+    (merged-length (part (a .work .now) (a .to) (a .len)) (part (a .other .now) (a .from) (a .len))
     (length-part (a .work .now) (a .to) (a .len) (omega arith) ∙ sym (length-part (a .other .now) (a .from) (a .len) (omega arith))) ∙ length-part
     (a .work .now) (a .to) (a .len) (omega arith)) (omega arith) (at-loop .loop .inv) (a .to + at-loop .loop .i) (inr (omega arith))) ∙ sym
     (merged-at (a .work .now) (a .other .now) (a .to) (a .from) (a .len) (at-loop .loop .i) (in-loop .loop-test .taken) (omega arith) (omega arith))))
@@ -81,7 +83,7 @@ returns : tie.Need-returns Inv-loop μ-loop
 returns c =
     let a = c .before .before .before .before .args in
     putting-ends (a .work .now) (a .to) _ (a .len)
-    (merged-long (part (a .work .now) (a .to) (a .len)) (part (a .other .now) (a .from) (a .len))
+    (merged-length (part (a .work .now) (a .to) (a .len)) (part (a .other .now) (a .from) (a .len))
     (length-part (a .work .now) (a .to) (a .len) (omega arith) ∙ sym (length-part (a .other .now) (a .from) (a .len) (omega arith))) ∙ length-part
     (a .work .now) (a .to) (a .len) (omega arith)) (omega arith) (c .before .loop .inv) (c .loop-test .left)
 

@@ -1,6 +1,6 @@
 -- Each test decides a choice of `mergedWord`.
 use borrow.Author.Tests.{eq-eqb, ne-eqb}
-use Rattle.values.specs.Words.{mergedWord}
+use Rattle.values.specs.Engine.Words.{mergedWord}
 use Rattle.values.proofs.standings.merge_word.Statement.{statement}
 use Rattle.values.proofs.standings.merge_word.Tie as tie
 

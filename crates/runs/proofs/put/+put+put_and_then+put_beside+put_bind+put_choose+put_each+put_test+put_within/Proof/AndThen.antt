@@ -5,11 +5,11 @@ use mathlib.Core.Logic.{inl}
 use Prim.Native.Nat.{ℕ, _+_}
 use native.Mathlib.Omega.{arith}
 use Rattle.lines.specs.Entries.{Entry}
-use Rattle.lines.specs.Nodes.{Node as Line}
-use Rattle.runs.specs.Runs.{entriesOf, linesOf}
+use Rattle.lines.specs.Nodes.{Line}
+use Rattle.lines.specs.Engine.Starts.{entriesOf, linesOf}
 use Rattle.runs.proofs.PutRuns.{show-space, BegunAt, PutFactsAt, put-facts}
 use Rattle.runs.proofs.PutThen.{then-levels, then-goes, then-asks-second, then-asks-first, then-back}
-use Rattle.runs.proofs.ShowRuns.{Got, got, halted}
+use Rattle.runs.specs.Theorems.RunAnswers.{Got, got, halted}
 use Rattle.runs.proofs.Trees.{here, ready-then}
 use Rattle.runs.proofs.put.put.Reads as put
 use Rattle.runs.proofs.tree.after.Reads as after-reads

@@ -6,11 +6,12 @@ use Prim.Native.Nat.{ℕ, _+_}
 use native.Mathlib.Omega.{arith}
 use lib.ListN.{getD}
 use Rattle.lines.specs.Entries.{Entry}
-use Rattle.lines.specs.Nodes.{Node as Line}
-use Rattle.runs.specs.Runs.{entriesOf, linesOf, ShownBy}
+use Rattle.lines.specs.Nodes.{Line}
+use Rattle.lines.specs.Engine.Starts.{entriesOf, linesOf}
+use Rattle.runs.specs.Engine.Runs.{ShownBy}
 use Rattle.runs.proofs.PutBeside.{beside-levels, first-goes, second-goes, view-cuts, beside-asks-second, beside-asks-first, beside-back}
 use Rattle.runs.proofs.PutRuns.{shown-before, show-space, BegunAt, PutFactsAt, put-facts}
-use Rattle.runs.proofs.ShowRuns.{Got, got, halted}
+use Rattle.runs.specs.Theorems.RunAnswers.{Got, got, halted}
 use Rattle.runs.proofs.Trees.{here, ready-beside}
 use Rattle.runs.proofs.put.put.Reads as put
 use Rattle.runs.proofs.tree.after.Reads as after-reads

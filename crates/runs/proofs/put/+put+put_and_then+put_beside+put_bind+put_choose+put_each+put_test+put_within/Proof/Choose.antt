@@ -4,8 +4,8 @@ use mathlib.Core.List.{List}
 use Prim.Native.Nat.{ℕ}
 use native.Mathlib.Omega.{arith}
 use Rattle.lines.specs.Entries.{Entry}
-use Rattle.lines.specs.Nodes.{Node as Line}
-use Rattle.runs.specs.Runs.{entriesOf, linesOf}
+use Rattle.lines.specs.Nodes.{Line}
+use Rattle.lines.specs.Engine.Starts.{entriesOf, linesOf}
 use Rattle.runs.proofs.PutChoose.{choose-levels, choose-goes, branch-asks, test-asks, choose-back}
 use Rattle.runs.proofs.PutRuns.{told, show-space, BegunAt, PutFactsAt, put-facts}
 use Rattle.runs.proofs.Trees.{here, here-test, ready-choose, ready-branch}

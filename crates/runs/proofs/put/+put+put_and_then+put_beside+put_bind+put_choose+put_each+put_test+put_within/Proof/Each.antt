@@ -4,13 +4,12 @@ use mathlib.Core.List.{List}
 use Prim.Native.Nat.{ℕ, _+_, _-_}
 use native.Mathlib.Omega.{arith}
 use Rattle.lines.specs.Entries.{Entry}
-use Rattle.lines.specs.Nodes.{nodes}
-use Rattle.lines.specs.Nodes.{Node as Line}
+use Rattle.lines.specs.Nodes.{Line, nodes}
+use Rattle.lines.specs.Engine.Starts.{entriesOf, linesOf}
 use Rattle.runs.specs.Grounds.{view}
-use Rattle.runs.specs.Runs.{entriesOf, linesOf}
 use Rattle.runs.proofs.PutEach.{Going, each-levels, items-start, items-end, some-nodes, item-space, item-goes, item-fits, item-asks, item-next}
 use Rattle.runs.proofs.PutRuns.{BegunAt, PutFactsAt, put-facts}
-use Rattle.runs.proofs.ShowRuns.{Got, got, halted}
+use Rattle.runs.specs.Theorems.RunAnswers.{Got, got, halted}
 use Rattle.runs.proofs.Trees.{ready-each}
 use Rattle.runs.proofs.put.put.Reads as put
 use Rattle.runs.proofs.show.show.Reads as show-reads

@@ -4,9 +4,8 @@ use mathlib.Core.Logic.{inl, inr, ⊎-elim}
 use Prim.Native.Nat.{ℕ, _<_}
 use native.Mathlib.Omega.{arith}
 use lib.ListN.{length, getD}
-use Rattle.lines.specs.Entries.{entryAt}
+use Rattle.lines.specs.Engine.Starts.{entryAt, entriesOf}
 use Rattle.runs.specs.Reading.{noEntry}
-use Rattle.runs.specs.Runs.{entriesOf}
 use Rattle.runs.proofs.Lookups.{operation-of, slot-byte}
 use Rattle.runs.proofs.PutLeaves.{source-long, source-back, made-back, slot-found, slot-long, slot-back, contents-long, contents-back, not-source, bind-left}
 use Rattle.runs.proofs.ShowEntries.{in-starts}

@@ -6,8 +6,8 @@ use Prim.Native.Nat.{ℕ, _<_}
 use native.Mathlib.Omega.{arith}
 use lib.ListN.{length}
 use Rattle.lines.specs.Entries.{Entry}
-use Rattle.lines.specs.Nodes.{Node as Line}
-use Rattle.runs.specs.Runs.{entriesOf, linesOf}
+use Rattle.lines.specs.Nodes.{Line}
+use Rattle.lines.specs.Engine.Starts.{entriesOf, linesOf}
 use Rattle.runs.proofs.Lookups.{operation-of}
 use Rattle.runs.proofs.PutRuns.{PutFacts}
 use Rattle.runs.proofs.PutTest.{plain-back, BegunTest, equals-facts, equals-asks, equals-back}

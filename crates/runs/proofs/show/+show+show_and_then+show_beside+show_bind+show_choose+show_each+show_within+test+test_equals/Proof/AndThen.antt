@@ -5,12 +5,13 @@ use mathlib.Core.Logic.{inl}
 use Prim.Native.Nat.{ℕ, _+_}
 use native.Mathlib.Omega.{arith}
 use Rattle.lines.specs.Entries.{Entry}
-use Rattle.runs.specs.Runs.{entriesOf, linesOf}
 use Rattle.runs.proofs.ShowEntries.{FactsAt, facts}
-use Rattle.runs.proofs.ShowRuns.{Got, got, halted, then-first, then-second, then-done}
+use Rattle.runs.specs.Theorems.RunAnswers.{Got, got, halted}
+use Rattle.runs.proofs.ShowRuns.{then-first, then-second, then-done}
 use Rattle.runs.proofs.SlotLaws.{bound-higher}
 use Rattle.runs.proofs.Trees.{here, ready-then}
-use Rattle.lines.specs.Nodes.{Node as Line}
+use Rattle.lines.specs.Nodes.{Line}
+use Rattle.lines.specs.Engine.Starts.{entriesOf, linesOf}
 use Rattle.runs.proofs.show.show.Reads as show
 use Rattle.runs.proofs.tree.after.Reads as after-reads
 use Rattle.values.proofs.extents.copy.Reads as copy-reads

@@ -4,12 +4,13 @@ use mathlib.Core.List.{List}
 use Prim.Native.Nat.{ℕ, _+_}
 use native.Mathlib.Omega.{arith}
 use Rattle.lines.specs.Entries.{Entry}
-use Rattle.runs.specs.Runs.{entriesOf, linesOf}
 use Rattle.runs.proofs.ShowEntries.{FactsAt, facts}
-use Rattle.runs.proofs.ShowRuns.{Got, got, halted, beside-first, beside-second, beside-large, beside-done}
+use Rattle.runs.specs.Theorems.RunAnswers.{Got, got, halted}
+use Rattle.runs.proofs.ShowRuns.{beside-first, beside-second, beside-large, beside-done}
 use Rattle.runs.proofs.SlotLaws.{bound-higher}
 use Rattle.runs.proofs.Trees.{here, ready-beside}
-use Rattle.lines.specs.Nodes.{Node as Line}
+use Rattle.lines.specs.Nodes.{Line}
+use Rattle.lines.specs.Engine.Starts.{entriesOf, linesOf}
 use Rattle.runs.proofs.show.show.Reads as show
 use Rattle.runs.proofs.tree.after.Reads as after-reads
 use Rattle.runs.proofs.at.below.Reads as below-reads

@@ -5,9 +5,10 @@ use Prim.Native.Nat.{ℕ, _+_, _-_}
 use native.Mathlib.Omega.{arith}
 use lib.ListN.{getD}
 use Rattle.lines.specs.Entries.{Entry, slotOf}
+use Rattle.lines.specs.Engine.Starts.{entriesOf}
 use Rattle.runs.specs.Reading.{noEntry}
-use Rattle.runs.specs.Runs.{entriesOf, Ready}
-use Rattle.runs.specs.SlotWords.{oneMore}
+use Rattle.runs.specs.Engine.Runs.{Ready}
+use Rattle.runs.specs.Engine.SlotWords.{oneMore}
 use Rattle.runs.proofs.Lookups.{bind-byte}
 use Rattle.runs.proofs.ShowEntries.{facts, in-starts}
 use Rattle.runs.proofs.ShowRuns.{bind-done}

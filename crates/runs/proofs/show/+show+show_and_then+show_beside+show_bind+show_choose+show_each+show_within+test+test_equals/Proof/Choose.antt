@@ -4,7 +4,7 @@ use mathlib.Core.List.{List}
 use Prim.Native.Nat.{ℕ}
 use native.Mathlib.Omega.{arith}
 use Rattle.lines.specs.Entries.{Entry}
-use Rattle.runs.specs.Runs.{entriesOf}
+use Rattle.lines.specs.Engine.Starts.{entriesOf}
 use Rattle.runs.proofs.ShowEntries.{FactsAt, facts}
 use Rattle.runs.proofs.ShowRuns.{choose-stop, choose-done}
 use Rattle.runs.proofs.Trees.{here, here-test, ready-choose, ready-branch}

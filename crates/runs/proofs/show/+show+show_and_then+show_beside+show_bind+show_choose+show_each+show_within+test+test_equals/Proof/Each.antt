@@ -4,13 +4,14 @@ use mathlib.Core.List.{List}
 use Prim.Native.Nat.{ℕ, _+_, _-_}
 use native.Mathlib.Omega.{arith}
 use Rattle.lines.specs.Entries.{Entry}
-use Rattle.runs.specs.Runs.{entriesOf, linesOf, madeBy}
+use Rattle.runs.specs.Engine.Runs.{madeBy}
 use Rattle.runs.proofs.ShowEach.{Going, each-starts, each-done, each-stop, each-large, each-more}
 use Rattle.runs.proofs.ShowEntries.{FactsAt, facts}
-use Rattle.runs.proofs.ShowRuns.{Got, got, halted}
+use Rattle.runs.specs.Theorems.RunAnswers.{Got, got, halted}
 use Rattle.runs.proofs.SlotLaws.{bound-higher}
 use Rattle.runs.proofs.Trees.{here, ready-each}
-use Rattle.lines.specs.Nodes.{Node as Line}
+use Rattle.lines.specs.Nodes.{Line}
+use Rattle.lines.specs.Engine.Starts.{entriesOf, linesOf}
 use Rattle.runs.proofs.show.show.Reads as show
 use Rattle.values.proofs.nodes.first_item.Reads as first-item-reads
 use Rattle.runs.proofs.at.below_on.Reads as below-on-reads

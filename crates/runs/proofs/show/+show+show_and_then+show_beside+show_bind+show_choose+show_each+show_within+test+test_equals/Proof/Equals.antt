@@ -5,13 +5,13 @@ use Prim.Native.Nat.{ℕ, _+_}
 use native.Mathlib.Omega.{arith}
 use Rattle.lines.specs.Entries.{Entry}
 use Rattle.lines.specs.Texts.{agree}
-use Rattle.runs.specs.Runs.{entriesOf, linesOf}
 use Rattle.runs.proofs.ShowEntries.{FactsAt, facts}
-use Rattle.runs.proofs.ShowRuns.{Got, got, halted}
+use Rattle.runs.specs.Theorems.RunAnswers.{Got, got, halted}
 use Rattle.runs.proofs.ShowSources.{found-yes, found-no}
 use Rattle.runs.proofs.ShowTests.{equals-none, equals-stop, equals-other, equals-done}
 use Rattle.runs.proofs.Trees.{here, ready-equals}
-use Rattle.lines.specs.Nodes.{Node as Line}
+use Rattle.lines.specs.Nodes.{Line}
+use Rattle.lines.specs.Engine.Starts.{entriesOf, linesOf}
 use Rattle.runs.proofs.show.show.Reads as show
 use Rattle.runs.proofs.lookup.agree.Reads as agree-reads
 use Rattle.runs.proofs.lookup.text_of_word.Reads as text-of-word-reads

@@ -6,8 +6,9 @@ use Prim.Native.Nat.{ℕ}
 use native.Mathlib.Omega.{arith}
 use lib.ListN.{getD}
 use Rattle.lines.specs.Entries.{Entry}
+use Rattle.lines.specs.Engine.Starts.{entriesOf}
 use Rattle.runs.specs.Reading.{noEntry}
-use Rattle.runs.specs.Runs.{entriesOf, madeBy}
+use Rattle.runs.specs.Engine.Runs.{madeBy}
 use Rattle.runs.proofs.Lookups.{operation-of, slot-byte}
 use Rattle.runs.proofs.ShowEntries.{AtEntryAt, at-entry, only-made, only-bind, shows-source, shows-slot, shows-contents, shows-made, shows-nothing}
 use Rattle.runs.proofs.Trees.{operation-here, here, slot-bound}

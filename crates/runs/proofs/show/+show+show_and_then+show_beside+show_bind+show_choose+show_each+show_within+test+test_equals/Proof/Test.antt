@@ -5,8 +5,8 @@ use Prim.Native.Nat.{ℕ}
 use native.Mathlib.Omega.{arith}
 use lib.ListN.{getD}
 use Rattle.lines.specs.Entries.{Entry}
+use Rattle.lines.specs.Engine.Starts.{entriesOf}
 use Rattle.runs.specs.Reading.{noEntry}
-use Rattle.runs.specs.Runs.{entriesOf}
 use Rattle.runs.proofs.Lookups.{operation-of}
 use Rattle.runs.proofs.ShowEntries.{AtEntryAt, at-entry, tests-tag, tests-element}
 use Rattle.runs.proofs.Trees.{test-here, here-test}

@@ -7,16 +7,17 @@ use Prim.Native.Nat.{ℕ, _+_, _-_, _<_}
 use native.Mathlib.Omega.{arith}
 use lib.ListN.{getD, length-set}
 use Rattle.lines.specs.Entries.{Entry}
-use Rattle.values.specs.Words.{valueAt}
-use Rattle.runs.specs.Leaves.{isOneElement}
-use Rattle.runs.specs.Runs.{entriesOf, linesOf, madeBy, lookupOf}
+use Rattle.values.specs.Engine.Words.{valueAt}
+use Rattle.runs.specs.Engine.Leaves.{isOneElement}
+use Rattle.runs.specs.Engine.Runs.{madeBy, lookupOf}
 use Rattle.runs.proofs.ShowEntries.{FactsAt, facts}
-use Rattle.runs.proofs.ShowRuns.{Got, got, halted}
+use Rattle.runs.specs.Theorems.RunAnswers.{Got, got, halted}
 use Rattle.runs.proofs.ShowSources.{found-yes, found-no, element-words}
 use Rattle.runs.proofs.ShowWithin.{within-none, within-stop, within-over, within-deep, within-done}
 use Rattle.runs.proofs.SlotLaws.{bound-higher}
 use Rattle.runs.proofs.Trees.{here, ready-within}
-use Rattle.lines.specs.Nodes.{Node as Line}
+use Rattle.lines.specs.Nodes.{Line}
+use Rattle.lines.specs.Engine.Starts.{entriesOf, linesOf}
 use Rattle.runs.proofs.show.show.Reads as show
 use Rattle.runs.proofs.show.one_element.Reads as one-element-reads
 use Rattle.values.proofs.nodes.is_shallow.Reads as is-shallow-reads

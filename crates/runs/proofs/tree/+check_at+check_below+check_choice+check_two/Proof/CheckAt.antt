@@ -6,9 +6,9 @@ use native.Mathlib.Omega.{arith}
 use lib.ListN.{length, length-map}
 use borrow.Author.Tests.{not-true, not-false}
 use Rattle.lines.specs.Entries.{rowOf}
-use Rattle.runs.specs.Runs.{entriesOf}
-use Rattle.runs.specs.Checking.{roomOf}
-use Rattle.runs.specs.Ends.{endBelow, endAt}
+use Rattle.lines.specs.Engine.Starts.{entriesOf}
+use Rattle.runs.specs.Engine.Checking.{roomOf}
+use Rattle.runs.specs.Engine.Ends.{endBelow, endAt}
 use Rattle.runs.proofs.TreeCheckEnds.{fault-here, fault-below, stored}
 use Rattle.runs.proofs.TreeCheckEntries.{Goes, no-level, past-entries, entry-goes}
 use Rattle.runs.proofs.tree.check_at.Reads as check-at

@@ -4,7 +4,7 @@ use Prim.Native.Nat.{ℕ}
 use native.Mathlib.Omega.{arith}
 use Rattle.lines.specs.Entries.{rowOf}
 use Rattle.lines.specs.declared.table.Row.{Row}
-use Rattle.runs.specs.Checking.{roomOf}
+use Rattle.runs.specs.Engine.Checking.{roomOf}
 use Rattle.runs.proofs.TreeCheckEnds.{none-below, one-below, two-below}
 use Rattle.runs.proofs.TreeCheckEntries.{three-at-most}
 use Rattle.runs.proofs.tree.check_below.Reads as check-below

@@ -1,7 +1,7 @@
 -- A test, and two transformations behind it.
 use Prim.Native.Nat.{ℕ}
 use native.Mathlib.Omega.{arith}
-use Rattle.runs.specs.Checking.{roomOf}
+use Rattle.runs.specs.Engine.Checking.{roomOf}
 use Rattle.runs.proofs.TreeCheckEnds.{sized-still, choice-fault, choice-then}
 use Rattle.runs.proofs.tree.check_choice.Reads as check-choice
 use Rattle.runs.proofs.tree.+check_at+check_below+check_choice+check_two.Lts-check_choice as check-choice-lts

@@ -1,7 +1,7 @@
 -- One transformation behind the other.
 use Prim.Native.Nat.{ℕ}
 use native.Mathlib.Omega.{arith}
-use Rattle.runs.specs.Checking.{roomOf}
+use Rattle.runs.specs.Engine.Checking.{roomOf}
 use Rattle.runs.proofs.TreeCheckEnds.{sized-still, two-fault, two-then}
 use Rattle.runs.proofs.tree.check_two.Reads as check-two
 use Rattle.runs.proofs.tree.+check_at+check_below+check_choice+check_two.Lts-check_two as check-two-lts

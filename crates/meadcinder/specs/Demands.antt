@@ -1,0 +1,34 @@
+-- The three demands of what a form for C leaves, as a host reads it. The buffers that suffice are an output and the form's own work slice.
+use Prim.Native.Nat.{ℕ}
+use mathlib.Core.Path.{_≡_}
+use mathlib.Core.Bool.{true}
+use mathlib.Core.List.{List}
+use Rattle.lines.specs.Nodes.{nodes}
+use Rattle.runs.specs.Grounds.{oneMaster, view}
+use Rattle.calls.specs.Judging.{judgedShow, judgedPutBack}
+use Rattle.calls.specs.Outcomes.{enough, showCall}
+use Rattle.calls.specs.Demands.{numberOf, written, RefusesRightly, WritesRightly, Given, Answers, SameLines}
+use Rattle.meadcinder.specs.Forms.{PackedOutcome, ownWork, asRead, ShowsInC}
+
+-- demand 1
+abbrev pub ShowDemand1 : (master program out : List ℕ) → PackedOutcome → Type 0
+ShowDemand1 master program out left = RefusesRightly (judgedShow master program) out ownWork (asRead left)
+
+abbrev pub PutDemand1 : (master program edited out : List ℕ) → PackedOutcome → Type 0
+PutDemand1 master program edited out left = RefusesRightly (judgedPutBack master program edited) out ownWork (asRead left)
+
+-- demand 2
+abbrev pub ShowDemand2 : (master program out : List ℕ) → PackedOutcome → Type 0
+ShowDemand2 master program out left = WritesRightly (judgedShow master program) out ownWork (asRead left)
+
+abbrev pub PutDemand2 : (master program edited out : List ℕ) → PackedOutcome → Type 0
+PutDemand2 master program edited out left = WritesRightly (judgedPutBack master program edited) out ownWork (asRead left)
+
+-- demand 3
+pub record Demand3 (master program edited out : List ℕ) (given : Given master program edited out ownWork) (left : PackedOutcome) : Type 0 where
+  pub answers : Answers showCall master program edited out ownWork given (asRead left)
+  -- "and showing the returned master succeeds with the same lines in the same order": with the form too
+  pub again : numberOf (asRead left) ≡ 0 → (out₂ : List ℕ) → enough out₂ ownWork ≡ true
+      → (shown : PackedOutcome) → ShowsInC (written (asRead left)) program out₂ shown
+      → (numberOf (asRead shown) ≡ 0)
+      × SameLines (view (oneMaster (given .lines)) (given .shown .value)) (nodes (written (asRead left))) (nodes (written (asRead shown)))

@@ -1,0 +1,40 @@
+-- What keeps a form's contract meets the three demands, as a host reads it.
+use mathlib.Core.Path.{_≡_, sym, subst}
+use mathlib.Core.List.{List}
+use Prim.Native.Nat.{ℕ}
+use Rattle.lines.specs.Nodes.{nodes}
+use Rattle.runs.specs.Grounds.{oneMaster, view}
+use Rattle.calls.specs.Judging.{judgedShow, judgedPutBack}
+use Rattle.calls.specs.Outcomes.{showCall}
+use Rattle.calls.specs.Demands.{numberOf, written, RefusesRightly, WritesRightly, Given, Answers, SameLines}
+use Rattle.calls.specs.Theorems.Demand12 as calls
+use Rattle.calls.specs.Theorems.Demand3 as carried
+use Rattle.meadcinder.specs.Forms.{PackedOutcome, ownWork, asRead, ShowsInC, PutsBackInC}
+use Rattle.meadcinder.specs.Demands.{ShowDemand1, PutDemand1, ShowDemand2, PutDemand2, Demand3}
+
+module _ (master program out : List ℕ) (left : PackedOutcome) (shows : ShowsInC master program out left) where
+  pub show-demand1 : ShowDemand1 master program out left
+  show-demand1 = subst (RefusesRightly (judgedShow master program) out ownWork) (sym (shows .reads)) (calls.show-demand1 master program out ownWork)
+
+  pub show-demand2 : ShowDemand2 master program out left
+  show-demand2 = subst (WritesRightly (judgedShow master program) out ownWork) (sym (shows .reads)) (calls.show-demand2 master program out ownWork)
+
+module _ (master program edited out : List ℕ) (left : PackedOutcome) (puts : PutsBackInC master program edited out left) where
+  pub put-demand1 : PutDemand1 master program edited out left
+  put-demand1 = subst (RefusesRightly (judgedPutBack master program edited) out ownWork) (sym (puts .reads)) (calls.put-demand1 master program edited out ownWork)
+
+  pub put-demand2 : PutDemand2 master program edited out left
+  put-demand2 = subst (WritesRightly (judgedPutBack master program edited) out ownWork) (sym (puts .reads)) (calls.put-demand2 master program edited out ownWork)
+
+  pub demand3 : (given : Given master program edited out ownWork) → Demand3 master program edited out given left
+  demand3 given =
+      let a : Answers showCall master program edited out ownWork given (asRead left) =
+      subst (Answers showCall master program edited out ownWork given) (sym (puts .reads)) (carried.demand3 master program edited out ownWork given) in
+      record {
+        answers = a;
+        again = λ done out₂ room shown s. (
+          subst (λ z. numberOf z ≡ 0) (sym (s .reads)) (a .succeeds done out₂ ownWork room),
+          subst (λ z. SameLines (view (oneMaster (given .lines)) (given .shown .value)) (nodes (written (asRead left))) (nodes (written z))) (sym (s .reads))
+              (a .again done out₂ ownWork room),
+        );
+      }

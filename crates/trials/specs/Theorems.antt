@@ -1,0 +1,10 @@
+-- The calls put to the test: computed cases, and calls that have to be rejected.
+-- Any call with our contracts meets the demands
+pub mod Contracts
+-- Computed: document 01's bench examples, a case of each reply, and cases of demand 3
+pub mod Cases
+pub mod Bench
+pub mod EveryReply
+pub mod Demand3Cases
+-- Calls that do not meet the demands, nor our contracts
+pub mod Trials
