@@ -1,5 +1,5 @@
 /* Times the C forms on the inputs in the folders named: a line a call with its nanoseconds, its answer and a sum over
-   its output. */
+   its output, a sweep's number lines behind it. */
 #include "meadcinder.h"
 
 typedef meadcinder_size size;
@@ -13,7 +13,7 @@ int clock_gettime(int clock, long time[2]);
 enum { MONOTONIC = 1, ROUNDS = 7, ROUND_NS = 40000000, BETWEEN_LOOKS = 8 };
 
 static unsigned char master[MEADCINDER_OUTPUT_ROOM], program[MEADCINDER_OUTPUT_ROOM], view[MEADCINDER_OUTPUT_ROOM];
-static unsigned char output[MEADCINDER_OUTPUT_ROOM];
+static unsigned char output[MEADCINDER_OUTPUT_ROOM], numbers[MEADCINDER_NUMBERS_ROOM];
 static size master_length, program_length, view_length;
 
 static meadcinder_answer show(void) {
@@ -23,6 +23,10 @@ static meadcinder_answer show(void) {
 static meadcinder_answer put_back(void) {
     return meadcinder_put_back(master, master_length, program, program_length, view, view_length, output,
                                sizeof output);
+}
+
+static meadcinder_answer sweep(void) {
+    return meadcinder_sweep(master, master_length, output, sizeof output, numbers, sizeof numbers);
 }
 
 static unsigned long now(void) {
@@ -45,10 +49,22 @@ static unsigned long nanoseconds(meadcinder_answer (*call)(void)) {
     return best;
 }
 
+static unsigned sum_over(unsigned sum, const unsigned char *bytes, size count) {
+    for (size i = 0; i < count; i++) sum = sum * 31 + bytes[i];
+    return sum;
+}
+
+/* The number lines have five bytes for each line of the master. */
+static size numbers_length(void) {
+    size length = 0;
+    for (size i = 0; i < master_length; i++) length += master[i] == '\n' ? 5 : 0;
+    return length;
+}
+
 static void report(const char *folder, const char *name, meadcinder_answer (*call)(void)) {
     meadcinder_answer answer = call();
-    unsigned sum = 0;
-    for (size i = 0; i < MEADCINDER_LENGTH(answer); i++) sum = sum * 31 + output[i];
+    unsigned sum = sum_over(0, output, MEADCINDER_LENGTH(answer));
+    if (call == sweep && MEADCINDER_NUMBER(answer) == MEADCINDER_DONE) sum = sum_over(sum, numbers, numbers_length());
     printf("%s %s %lu %lu %u\n", folder, name, nanoseconds(call), (unsigned long)answer, sum);
 }
 
@@ -69,6 +85,7 @@ int main(int count, char **words) {
         view_length = read_file(words[i], "view", view);
         report(words[i], "show", show);
         report(words[i], "putback", put_back);
+        report(words[i], "sweep", sweep);
     }
     return 0;
 }

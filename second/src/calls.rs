@@ -1,4 +1,4 @@
-//! The two calls, show and put back, and the order of judging of the twelve replies.
+//! The calls, show, put back and sweep, and the order of judging of the twelve replies.
 
 use crate::entry::{self, Entry};
 use crate::lines;
@@ -10,6 +10,7 @@ use crate::rules::{self, ClashPlace, MarkedMaster, Rules, Stage};
 use crate::showing::{Cause, Showing, Stop};
 use crate::standing::Standing;
 use crate::stream::{Call, Case};
+use crate::sweeping;
 use crate::tree::{self, Value};
 use crate::view;
 use std::collections::BTreeSet;
@@ -19,20 +20,28 @@ pub struct Reply {
     pub number: u8,
     pub place: usize,
     pub output: Vec<u8>,
+    /// The second output, which a sweep alone has.
+    pub numbers: Vec<u8>,
 }
 
 impl Reply {
-    fn refusal(number: u8, place: usize) -> Reply {
-        Reply { number, place, output: Vec::new() }
+    pub fn refusal(number: u8, place: usize) -> Reply {
+        Reply { number, place, output: Vec::new(), numbers: Vec::new() }
     }
 
-    /// The reply line, then the output lines.
+    pub fn done(output: Vec<u8>) -> Reply {
+        Reply { number: 0, place: 0, output, numbers: Vec::new() }
+    }
+
+    /// The reply line, then the output lines, then those of the second output, which the length
+    /// does not count.
     pub fn printed(&self) -> Vec<u8> {
         let [place_high, place_low] = (self.place as u16).to_be_bytes();
         let [length_high, length_low] = (self.output.len() as u16).to_be_bytes();
         let mut printed =
             lines::write(&[self.number, place_high, place_low, length_high, length_low]);
         printed.extend(&self.output);
+        printed.extend(&self.numbers);
         printed
     }
 }
@@ -44,20 +53,36 @@ pub fn answer(case: &Case, rules: &Rules) -> Reply {
 fn judged(case: &Case, rules: &Rules) -> Result<Reply, Reply> {
     let mut desk = Desk::new(case, rules);
     for &stage in &rules.judging.order {
-        if case.call == Call::PutBack || !looks_at_the_view(stage) {
+        if concerns(stage, case.call) {
             desk.judge(stage)?;
         }
     }
-    let lines = match case.call {
-        Call::Show => desk.fresh,
-        Call::PutBack => desk.returned,
-    };
-    Ok(Reply { number: 0, place: 0, output: node_line::write_file(&lines) })
+    Ok(match case.call {
+        Call::Show => Reply::done(node_line::write_file(&desk.fresh)),
+        Call::PutBack => Reply::done(node_line::write_file(&desk.returned)),
+        Call::Sweep => swept(&desk.master, &rules.sweeping),
+    })
 }
 
-fn looks_at_the_view(stage: Stage) -> bool {
-    use Stage::{Clash, ProgramMarks, ViewComparison, ViewForm};
-    matches!(stage, ViewForm | ViewComparison | ProgramMarks | Clash)
+/// Showing takes no view, and a sweep a master alone.
+fn concerns(stage: Stage, call: Call) -> bool {
+    use Stage::{Clash, MasterBounds, MasterForm, ProgramMarks, Rooms, ViewComparison, ViewForm};
+    match call {
+        Call::Show => !matches!(stage, ViewForm | ViewComparison | ProgramMarks | Clash),
+        Call::PutBack => true,
+        Call::Sweep => matches!(stage, Rooms | MasterForm | MasterBounds),
+    }
+}
+
+fn swept(master: &[NodeLine], rules: &rules::Sweeping) -> Reply {
+    let swept = sweeping::sweep(master, rules);
+    let mut reply = Reply::done(node_line::write_file(&swept.lines));
+    let numbers = sweeping::number_lines(&swept, rules);
+    match rules.length_counts_number_lines {
+        false => reply.numbers = numbers,
+        true => reply.output.extend(numbers),
+    }
+    reply
 }
 
 /// What has been learnt of a case so far.
@@ -121,14 +146,28 @@ impl<'a> Desk<'a> {
     }
 
     fn master_form(&mut self) -> Result<(), Reply> {
-        self.master = node_line::read_file(&self.case.master, &self.rules.lines)
-            .map_err(|place| Reply::refusal(4, place))?;
+        let read = node_line::read_file(&self.case.master, &self.rules.lines);
+        if let Err(place) = read
+            && !self.rules.judging.whole_file_for_one_number
+        {
+            self.judge_lines_before(place)?;
+        }
+        self.master = read.map_err(|place| Reply::refusal(4, place))?;
         Ok(())
+    }
+
+    /// The wrong order: the lines before one of wrong form are judged for 5 first.
+    fn judge_lines_before(&mut self, place: usize) -> Result<(), Reply> {
+        let before: Vec<&[u8]> =
+            self.case.master.split_inclusive(|&byte| byte == 0x0A).take(place).collect();
+        self.master = node_line::read_file(&before.concat(), &self.rules.lines)
+            .expect("the first line of wrong form stands behind these");
+        refuse(5, self.master_fault())
     }
 
     fn master_fault(&self) -> Option<usize> {
         let marks_allowed = match self.rules.judging.marked_master {
-            MarkedMaster::RefusedByPutBack => self.case.call == Call::Show,
+            MarkedMaster::RefusedByPutBack => self.case.call != Call::PutBack,
             MarkedMaster::NeverRefused => true,
             MarkedMaster::AlwaysRefused => false,
         };
@@ -176,7 +215,11 @@ fn refuse(number: u8, fault: Option<usize>) -> Result<(), Reply> {
 }
 
 fn rooms_fault(case: &Case, rooms: &rules::Rooms) -> Option<usize> {
-    (case.output_room < rooms.output || case.work_room < rooms.work).then_some(0)
+    let second = match case.call {
+        Call::Show | Call::PutBack => rooms.work,
+        Call::Sweep => rooms.numbers,
+    };
+    (case.output_room < rooms.output || case.second_room < second).then_some(0)
 }
 
 fn stopped(stop: Stop) -> Reply {

@@ -1,19 +1,32 @@
-//! The committed cases: the bench examples, then seeded ones. The product's `replay` answers them
-//! from a file, which is made from here.
+//! The committed cases: the bench examples, then seeded cases of show and put back, then the edges
+//! of sweeping, then seeded sweeps. The product's `replay` answers them from a file, which is made
+//! from here.
 
-use crate::cases::{self, bench};
+use crate::cases::{self, bench, sweep_edges, sweeps};
 use crate::stream::Case;
 
 pub const SEED: u64 = 20_071;
 
-/// How many cases are seeded.
+/// How many cases of show and put back are seeded.
 pub const COUNT: usize = 4_000;
+
+/// How many sweeps are seeded.
+pub const SWEEPS: usize = 500;
 
 pub fn cases() -> Vec<Case> {
     let examples = bench::examples().into_iter().map(|example| example.case);
-    examples.chain(seeded()).collect()
+    examples.chain(seeded()).chain(sweeps()).collect()
 }
 
 pub fn seeded() -> Vec<Case> {
     cases::cases(SEED, COUNT)
+}
+
+pub fn sweeps() -> Vec<Case> {
+    let edges = sweep_edges::edges().into_iter().map(|edge| edge.case);
+    edges.chain(seeded_sweeps()).collect()
+}
+
+pub fn seeded_sweeps() -> Vec<Case> {
+    sweeps::cases(SEED, SWEEPS)
 }

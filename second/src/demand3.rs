@@ -5,6 +5,7 @@ use crate::calls::{self, Desk, Reply};
 use crate::node_line::{self, FROM_PROGRAM, Mark, NodeLine};
 use crate::rules::{Rules, Stage};
 use crate::stream::{Call, Case};
+use crate::verdict::Verdict;
 use std::collections::{BTreeMap, BTreeSet};
 
 /// What must hold before demand 3 speaks, in the order of judging.
@@ -20,13 +21,6 @@ const PREMISES: [Stage; 9] = [
     Stage::ProgramMarks,
 ];
 
-#[derive(Clone, Copy, Debug, PartialEq, Eq)]
-pub enum Verdict {
-    DoesNotApply,
-    Holds,
-    Violated,
-}
-
 /// Checks one case against the answer of the calls.
 pub fn check(case: &Case, rules: &Rules) -> Verdict {
     let mut desk = Desk::new(case, rules);
@@ -37,12 +31,10 @@ pub fn check(case: &Case, rules: &Rules) -> Verdict {
     }
     let reply = calls::answer(case, rules);
     let holds = match least_unacceptable(&edits_by_node(&desk.view), &desk.compared) {
-        Some(number) => {
-            reply == Reply { number: 11, place: usize::from(number), output: Vec::new() }
-        }
+        Some(number) => reply == Reply::refusal(11, usize::from(number)),
         None => accepted_as_demanded(case, &desk, &reply, rules),
     };
-    if holds { Verdict::Holds } else { Verdict::Violated }
+    Verdict::of(holds)
 }
 
 /// The edited lines of each master node: the marked ones.
@@ -71,7 +63,7 @@ fn least_unacceptable(
 
 fn accepted_as_demanded(case: &Case, desk: &Desk, reply: &Reply, rules: &Rules) -> bool {
     let demanded = edited_master(&desk.master, &edits_by_node(&desk.view));
-    let accepted = Reply { number: 0, place: 0, output: node_line::write_file(&demanded) };
+    let accepted = Reply::done(node_line::write_file(&demanded));
     *reply == accepted && shows_the_same_lines(case, desk, &demanded, reply, rules)
 }
 
@@ -103,6 +95,6 @@ fn shows_the_same_lines(
     }
     let shown_again =
         Case { call: Call::Show, master: reply.output.clone(), view: Vec::new(), ..case.clone() };
-    let demanded = Reply { number: 0, place: 0, output: node_line::write_file(&lines) };
+    let demanded = Reply::done(node_line::write_file(&lines));
     calls::answer(&shown_again, rules) == demanded
 }

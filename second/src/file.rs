@@ -1,4 +1,4 @@
-//! The files of a folder, read as the programs `show` and `putback` read them.
+//! The files of a folder, read as the programs `show`, `putback` and `sweep` read them.
 
 use std::fs::File;
 use std::io::{self, Read};

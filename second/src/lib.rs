@@ -1,4 +1,5 @@
-//! The independent second program: document 01 over trees that own their texts and standings.
+//! The independent second program: document 01 and request #103 over trees that own their texts
+//! and standings.
 
 pub mod calls;
 pub mod cases;
@@ -16,6 +17,9 @@ pub mod rules;
 pub mod showing;
 pub mod standing;
 pub mod stream;
+pub mod sweep_sentences;
+pub mod sweeping;
 pub mod text;
 pub mod tree;
+pub mod verdict;
 pub mod view;

@@ -1,19 +1,21 @@
 //! The commands of the second program.
 
 use second::calls;
-use second::cases;
+use second::cases::{self, sweeps};
 use second::committed;
-use second::demand3::{self, Verdict};
+use second::demand3;
 use second::file::{self, LONGEST_NODE_FILE, LONGEST_PROGRAM};
 use second::replay;
 use second::rules::Rules;
 use second::stream::{self, Call, Case, Next};
+use second::sweep_sentences;
+use second::verdict::Verdict;
 use std::io::{self, BufReader, BufWriter, Write};
 use std::path::Path;
 use std::process::ExitCode;
 
-const USAGE: &str =
-    "usage: second show DIR | putback DIR | replay | cases SEED COUNT | committed | check";
+const USAGE: &str = "usage: second show DIR | putback DIR | sweep DIR | replay | cases SEED COUNT \
+                     | sweeps SEED COUNT | committed | check";
 
 fn main() -> ExitCode {
     let arguments: Vec<String> = std::env::args().skip(1).collect();
@@ -21,11 +23,10 @@ fn main() -> ExitCode {
     let done = match words.as_slice() {
         ["show", folder] => one_call(Call::Show, Path::new(folder)),
         ["putback", folder] => one_call(Call::PutBack, Path::new(folder)),
+        ["sweep", folder] => one_call(Call::Sweep, Path::new(folder)),
         ["replay"] => replay_input(),
-        ["cases", seed, count] => match (seed.parse(), count.parse()) {
-            (Ok(seed), Ok(count)) => write_stream(seeded(seed, count)),
-            _ => usage(),
-        },
+        ["cases", seed, count] => write_seeded(cases::case, seed, count),
+        ["sweeps", seed, count] => write_seeded(sweeps::case, seed, count),
         ["committed"] => write_stream(committed::cases().into_iter()),
         ["check"] => check_input(),
         _ => usage(),
@@ -49,10 +50,13 @@ fn one_call(call: Call, folder: &Path) -> io::Result<ExitCode> {
 
 fn read_folder(call: Call, folder: &Path) -> io::Result<Case> {
     let master = file::read(folder, "master.hex", LONGEST_NODE_FILE)?;
-    let program = file::read(folder, "program.hex", LONGEST_PROGRAM)?;
+    let program = match call {
+        Call::Show | Call::PutBack => file::read(folder, "program.hex", LONGEST_PROGRAM)?,
+        Call::Sweep => Vec::new(),
+    };
     let view = match call {
-        Call::Show => Vec::new(),
         Call::PutBack => file::read(folder, "view.hex", LONGEST_NODE_FILE)?,
+        Call::Show | Call::Sweep => Vec::new(),
     };
     Ok(Case::with_least_rooms(call, master, program, view))
 }
@@ -66,8 +70,11 @@ fn replay_input() -> io::Result<ExitCode> {
 }
 
 /// Made one by one, as there may be more of them than fit into memory.
-fn seeded(seed: u64, count: usize) -> impl Iterator<Item = Case> {
-    (0..count).map(move |index| cases::case(seed, index))
+fn write_seeded(case: fn(u64, usize) -> Case, seed: &str, count: &str) -> io::Result<ExitCode> {
+    match (seed.parse(), count.parse()) {
+        (Ok(seed), Ok(count)) => write_stream((0..count).map(|index| case(seed, index))),
+        _ => usage(),
+    }
 }
 
 fn write_stream(cases: impl Iterator<Item = Case>) -> io::Result<ExitCode> {
@@ -81,20 +88,29 @@ fn write_stream(cases: impl Iterator<Item = Case>) -> io::Result<ExitCode> {
     Ok(ExitCode::SUCCESS)
 }
 
+type Check = fn(&Case, &Rules) -> Verdict;
+
+const CHECKS: [(&str, Check); 2] =
+    [("demand 3", demand3::check), ("request #103", sweep_sentences::check)];
+
 fn check_input() -> io::Result<ExitCode> {
     let rules = Rules::document();
     let mut input = BufReader::new(io::stdin());
-    let (mut cases, mut checked) = (0, 0);
+    let (mut cases, mut checked) = (0, [0; CHECKS.len()]);
     loop {
         match stream::read(&mut input) {
-            Next::Case(case) => match demand3::check(&case, &rules) {
-                Verdict::DoesNotApply => {}
-                Verdict::Holds => checked += 1,
-                Verdict::Violated => {
-                    println!("case {cases} violates demand 3");
-                    return Ok(ExitCode::FAILURE);
+            Next::Case(case) => {
+                for ((name, check), checked) in CHECKS.iter().zip(&mut checked) {
+                    match check(&case, &rules) {
+                        Verdict::DoesNotApply => {}
+                        Verdict::Holds => *checked += 1,
+                        Verdict::Violated => {
+                            println!("case {cases} violates {name}");
+                            return Ok(ExitCode::FAILURE);
+                        }
+                    }
                 }
-            },
+            }
             Next::End => break,
             Next::Broken => {
                 println!("the stream is broken behind {cases} cases");
@@ -103,6 +119,8 @@ fn check_input() -> io::Result<ExitCode> {
         }
         cases += 1;
     }
-    println!("{cases} cases, demand 3 checked on {checked} of them");
+    let counts: Vec<String> =
+        CHECKS.iter().zip(checked).map(|((name, _), count)| format!("{name} on {count}")).collect();
+    println!("{cases} cases, checked: {} of them", counts.join(", "));
     Ok(ExitCode::SUCCESS)
 }

@@ -1,4 +1,5 @@
-//! Many cases from one input: the reply line, the output lines and the buffers line of each.
+//! Many cases from one input: the reply line of each, its output lines, a sweep's number lines, and
+//! its buffers line.
 
 use crate::calls;
 use crate::lines;

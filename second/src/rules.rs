@@ -1,5 +1,5 @@
-//! What document 01 fixes, as values. `Rules::document()` is document 01; the tests change one
-//! value at a time to see that the committed cases tell each wrong reading apart.
+//! What document 01 and request #103 fix, as values. `Rules::document()` is what they say; the tests
+//! change one value at a time to see that the committed cases tell each wrong reading apart.
 
 #[derive(Clone, Debug)]
 pub struct Rules {
@@ -8,6 +8,7 @@ pub struct Rules {
     pub bounds: Bounds,
     pub showing: Showing,
     pub putting_back: PuttingBack,
+    pub sweeping: Sweeping,
     pub judging: Judging,
 }
 
@@ -16,6 +17,7 @@ pub struct Rules {
 pub struct Rooms {
     pub output: u32,
     pub work: u32,
+    pub numbers: u32,
 }
 
 /// The form of files and lines.
@@ -103,8 +105,46 @@ pub enum EditsGoBy {
 }
 
 #[derive(Clone, Debug)]
+pub struct Sweeping {
+    pub goes: Goes,
+    pub marks_are_lost: bool,
+    pub lines_are_renumbered: bool,
+    pub first_number: u16,
+    pub number_lines: NumberLines,
+    pub length_counts_number_lines: bool,
+}
+
+/// Which nodes go.
+#[derive(Clone, Copy, Debug, PartialEq, Eq)]
+pub enum Goes {
+    DeletedWithContents,
+    DeletedAlone,
+    DeletedAndContentsRise,
+    DeletedWithLeaves,
+    DeletedWithItems,
+    DeletedWithSiblingsBehind,
+    UpToAnInnerDeleted,
+    AllButChanged,
+    ChangedToo,
+}
+
+/// What the second output says.
+#[derive(Clone, Copy, Debug, PartialEq, Eq)]
+pub enum NumberLines {
+    Document,
+    OldNumbers,
+    OldNumberOfEachNew,
+    RemovedAreZero,
+    RemovedGetTheNext,
+    LowByteFirst,
+    KeptOnly,
+    Always128,
+}
+
+#[derive(Clone, Debug)]
 pub struct Judging {
     pub order: Vec<Stage>,
+    pub whole_file_for_one_number: bool,
     pub marked_master: MarkedMaster,
     pub count_before_lines: bool,
     pub count_place: CountPlace,
@@ -150,11 +190,12 @@ pub enum ClashPlace {
 impl Rules {
     pub fn document() -> Rules {
         Rules {
-            rooms: Rooms { output: 9_856, work: 16_384 },
+            rooms: Rooms { output: 9_856, work: 16_384, numbers: 640 },
             lines: Lines::document(),
             bounds: Bounds::document(),
             showing: Showing::document(),
             putting_back: PuttingBack::document(),
+            sweeping: Sweeping::document(),
             judging: Judging::document(),
         }
     }
@@ -227,6 +268,19 @@ impl PuttingBack {
     }
 }
 
+impl Sweeping {
+    fn document() -> Sweeping {
+        Sweeping {
+            goes: Goes::DeletedWithContents,
+            marks_are_lost: true,
+            lines_are_renumbered: true,
+            first_number: 0,
+            number_lines: NumberLines::Document,
+            length_counts_number_lines: false,
+        }
+    }
+}
+
 impl Judging {
     fn document() -> Judging {
         Judging {
@@ -242,6 +296,7 @@ impl Judging {
                 Stage::ProgramMarks,
                 Stage::Clash,
             ],
+            whole_file_for_one_number: true,
             marked_master: MarkedMaster::RefusedByPutBack,
             count_before_lines: false,
             count_place: CountPlace::Shorter,

@@ -1,10 +1,11 @@
-//! The committed cases: which they are; how often each reply occurs among the seeded ones, and what
-//! their programs are made of.
+//! The committed cases: which they are; how often each reply occurs among the seeded ones, what
+//! their programs are made of, and what their sweeps remove.
 
 use second::calls;
-use second::cases::bench;
+use second::cases::{bench, sweep_edges};
 use second::committed;
 use second::entry::{self, Entry};
+use second::node_line::{self, Mark};
 use second::rules::Rules;
 use second::stream::Call;
 use std::collections::BTreeMap;
@@ -66,11 +67,58 @@ fn is(entry: &Entry, operation: u8) -> bool {
 #[test]
 fn the_stream_begins_with_the_bench_examples() {
     let cases = committed::cases();
-    let examples = bench::examples();
-    assert_eq!(cases.len(), examples.len() + committed::COUNT);
-    for (case, example) in cases.iter().zip(examples) {
+    for (case, example) in cases.iter().zip(bench::examples()) {
         assert_eq!(*case, example.case, "example {}", example.number);
     }
+}
+
+#[test]
+fn the_sweeps_stand_behind_all_others() {
+    let cases = committed::cases();
+    let (others, sweeps) = cases.split_at(bench::examples().len() + committed::COUNT);
+    assert!(others.iter().all(|case| case.call != Call::Sweep));
+    assert!(sweeps.iter().all(|case| case.call == Call::Sweep));
+    let edges = sweep_edges::edges();
+    assert_eq!(sweeps.len(), edges.len() + committed::SWEEPS);
+    for (case, edge) in sweeps.iter().zip(edges) {
+        assert_eq!(*case, edge.case, "{}", edge.what);
+    }
+}
+
+#[test]
+fn each_reply_to_a_sweep_occurs_often() {
+    let rules = Rules::document();
+    let mut replies: BTreeMap<u8, usize> = BTreeMap::new();
+    for case in committed::seeded_sweeps() {
+        *replies.entry(calls::answer(&case, &rules).number).or_default() += 1;
+    }
+    assert_eq!(replies.keys().copied().collect::<Vec<_>>(), [0, 1, 4, 5]);
+    assert!(replies[&0] * 2 > committed::SWEEPS, "{} sweeps are done", replies[&0]);
+    for (number, times) in replies {
+        assert!(times * 100 >= committed::SWEEPS * 8, "reply {number} occurs {times} times");
+    }
+}
+
+#[test]
+fn the_sweeps_have_much_to_remove() {
+    let rules = Rules::document();
+    let (mut deleted, mut changed, mut unmarked_gone, mut nothing_left) = (0, 0, 0, 0);
+    for case in committed::seeded_sweeps() {
+        let reply = calls::answer(&case, &rules);
+        let old = node_line::read_file(&case.master, &rules.lines).unwrap_or_default();
+        if reply.number == 0 && !old.is_empty() {
+            let count = |mark| old.iter().filter(|line| line.mark == mark).count();
+            let gone = reply.numbers.chunks(5).filter(|line| line == b"FFFF\n").count();
+            deleted += usize::from(count(Mark::Deleted) > 1);
+            changed += usize::from(count(Mark::Changed) > 1);
+            unmarked_gone += usize::from(gone > count(Mark::Deleted));
+            nothing_left += usize::from(reply.output.is_empty());
+        }
+    }
+    assert!(deleted > 100, "{deleted} sweeps have several deleted nodes");
+    assert!(changed > 50, "{changed} sweeps have several changed nodes");
+    assert!(unmarked_gone > 100, "in {unmarked_gone} sweeps nodes go that have no mark");
+    assert!(nothing_left > 20, "{nothing_left} sweeps leave nothing");
 }
 
 #[test]

@@ -3,9 +3,10 @@
 use second::calls;
 use second::cases;
 use second::committed;
-use second::demand3::{self, Verdict};
+use second::demand3;
 use second::rules::{EditsGoBy, Locking, Merging, Rules};
 use second::stream::{Call, Case};
+use second::verdict::Verdict;
 
 #[test]
 fn demand_3_holds_on_generated_cases() {

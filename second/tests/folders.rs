@@ -1,4 +1,4 @@
-//! The commands `show` and `putback` on the files of a folder.
+//! The commands `show`, `putback` and `sweep` on the files of a folder.
 
 mod common;
 
@@ -41,6 +41,19 @@ fn show_and_putback_print_the_reply_line_and_the_output_lines() {
 }
 
 #[test]
+fn sweep_prints_the_reply_line_the_swept_lines_and_the_number_lines() {
+    let row_1_deleted = [M[0], "01020200010177", M[2], M[3], M[4]];
+    let swept = "000000002F\n00020000000164\n01020000010177\n0201000002026C6F\n";
+    let numbers = "0000\nFFFF\nFFFF\n0001\n0002\n";
+    let with_a_master = folder("sweep", &[("master.hex", file(&row_1_deleted))]);
+    assert_eq!(printed("sweep", &with_a_master), format!("{swept}{numbers}"));
+    let with_an_empty_one = folder("sweep_nothing", &[("master.hex", Vec::new())]);
+    assert_eq!(printed("sweep", &with_an_empty_one), "0000000000\n");
+    let without = folder("sweep_no_master", &[("program.hex", file(&P))]);
+    assert_eq!(printed("sweep", &without), "FF00000000\n");
+}
+
+#[test]
 fn a_file_that_cannot_be_read_prints_ff() {
     let without_view = folder("no_view", &[("master.hex", file(&M)), ("program.hex", file(&P))]);
     assert!(printed("show", &without_view).starts_with("0000000022\n"));
@@ -59,4 +72,5 @@ fn a_file_that_is_too_long_is_judged_by_its_beginning() {
         (0..129).map(|number| line.replace("{}", &format!("{number:04X}"))).collect();
     let folder = folder("long", &[("master.hex", file(&longest)), ("program.hex", file(&["01"]))]);
     assert_eq!(printed("show", &folder), "0400800000\n");
+    assert_eq!(printed("sweep", &folder), "0400800000\n");
 }

@@ -10,8 +10,8 @@ use second::stream::{Call, Case};
 #[test]
 fn rooms_are_judged_before_all_else() {
     let case = Case::with_least_rooms(Call::Show, b"x".to_vec(), b"x".to_vec(), Vec::new());
-    let answer = |output_room, work_room| {
-        let case = Case { output_room, work_room, ..case.clone() };
+    let answer = |output_room, second_room| {
+        let case = Case { output_room, second_room, ..case.clone() };
         calls::answer(&case, &Rules::document())
     };
     assert_eq!(answer(9_855, 16_384), refused(1, 0));

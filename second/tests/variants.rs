@@ -1,10 +1,13 @@
-//! Deliberately wrong readings of document 01, each of which the committed cases tell apart.
+//! Deliberately wrong readings of document 01 and of request #103, each of which the committed cases
+//! tell apart: those of the request, and what sweeping takes over, by sweeps alone.
 
 use second::calls;
 use second::committed;
 use second::rules::{
-    ClashPlace, CountPlace, EditsGoBy, Locking, MarkedMaster, Merging, Rules, Stage,
+    ClashPlace, CountPlace, EditsGoBy, Goes, Locking, MarkedMaster, Merging, NumberLines, Rules,
+    Stage,
 };
+use second::stream::{Call, Case};
 
 type Variant = (&'static str, fn(&mut Rules));
 
@@ -136,6 +139,84 @@ const BOUNDS_ONE_TOO_TIGHT: [Variant; 14] = [
     ("09 and 0A may join 127 nodes at most", |rules| rules.bounds.joined_nodes = 127),
 ];
 
+const WRONG_SWEEPS: [Variant; 20] = [
+    ("the contents of a deleted node stay", |rules| rules.sweeping.goes = Goes::DeletedAlone),
+    ("the contents of a deleted node rise into its place", |rules| {
+        rules.sweeping.goes = Goes::DeletedAndContentsRise;
+    }),
+    ("only leaves go with a deleted node", |rules| {
+        rules.sweeping.goes = Goes::DeletedWithLeaves;
+    }),
+    ("only the top nodes of its contents go with a deleted node", |rules| {
+        rules.sweeping.goes = Goes::DeletedWithItems;
+    }),
+    ("the siblings behind a deleted node go", |rules| {
+        rules.sweeping.goes = Goes::DeletedWithSiblingsBehind;
+    }),
+    ("an inner deletion ends the outer one", |rules| {
+        rules.sweeping.goes = Goes::UpToAnInnerDeleted;
+    }),
+    ("a changed node in a deleted one stays", |rules| rules.sweeping.goes = Goes::AllButChanged),
+    ("a changed node goes", |rules| rules.sweeping.goes = Goes::ChangedToo),
+    ("the marks are kept", |rules| rules.sweeping.marks_are_lost = false),
+    ("the lines keep their old numbers", |rules| rules.sweeping.lines_are_renumbered = false),
+    ("the new numbers begin at 1", |rules| rules.sweeping.first_number = 1),
+    ("the second output has the old numbers", |rules| {
+        rules.sweeping.number_lines = NumberLines::OldNumbers;
+    }),
+    ("the second output has the old number of each new node", |rules| {
+        rules.sweeping.number_lines = NumberLines::OldNumberOfEachNew;
+    }),
+    ("the second output has 0 for a node that went", |rules| {
+        rules.sweeping.number_lines = NumberLines::RemovedAreZero;
+    }),
+    ("the second output has the next new number for a node that went", |rules| {
+        rules.sweeping.number_lines = NumberLines::RemovedGetTheNext;
+    }),
+    ("the second output has its low byte first", |rules| {
+        rules.sweeping.number_lines = NumberLines::LowByteFirst;
+    }),
+    ("the second output has lines for kept nodes only", |rules| {
+        rules.sweeping.number_lines = NumberLines::KeptOnly;
+    }),
+    ("the second output always has 128 lines", |rules| {
+        rules.sweeping.number_lines = NumberLines::Always128;
+    }),
+    ("the length counts the second output too", |rules| {
+        rules.sweeping.length_counts_number_lines = true;
+    }),
+    ("a sweep refuses marks", |rules| rules.judging.marked_master = MarkedMaster::AlwaysRefused),
+];
+
+const WRONG_REFUSALS_OF_SWEEPS: [Variant; 21] = [
+    ("a second output of 639 bytes is enough", |rules| rules.rooms.numbers = 639),
+    ("a second output of 640 bytes is too short", |rules| rules.rooms.numbers = 641),
+    ("any second output is enough", |rules| rules.rooms.numbers = 0),
+    ("an output of 9,855 bytes is enough", |rules| rules.rooms.output = 9_855),
+    ("an output of 9,856 bytes is too short", |rules| rules.rooms.output = 9_857),
+    ("4 is judged before 1", |rules| before(rules, Stage::MasterForm, Stage::Rooms)),
+    ("5 is judged before 1", |rules| {
+        before(rules, Stage::MasterForm, Stage::Rooms);
+        before(rules, Stage::MasterBounds, Stage::Rooms);
+    }),
+    ("5 at an earlier line is judged before 4", |rules| {
+        rules.judging.whole_file_for_one_number = false;
+    }),
+    ("line 128 is read", |rules| rules.lines.node_lines = 129),
+    ("line 127 is refused", |rules| rules.lines.node_lines = 127),
+    ("a text may have 33 bytes", |rules| rules.lines.longest_text = 33),
+    ("a text may have 31 bytes at most", |rules| rules.lines.longest_text = 31),
+    ("a tag may hold byte 20", |rules| rules.lines.first_tag_byte = 0x20),
+    ("a tag may hold byte 7F", |rules| rules.lines.last_tag_byte = 0x7F),
+    ("lower-case digits are digits", |rules| rules.lines.lower_case_digits = true),
+    ("the last line may lack its 0A", |rules| rules.lines.last_line_may_lack_its_end = true),
+    ("the number has its low byte first", |rules| rules.lines.number_low_byte_first = true),
+    ("an element may be changed", |rules| rules.lines.element_may_be_changed = true),
+    ("a master may be 8 deep", |rules| rules.bounds.master_depth = 8),
+    ("a master may be 6 deep at most", |rules| rules.bounds.master_depth = 6),
+    ("a tag may not hold byte 21", |rules| rules.lines.first_tag_byte = 0x22),
+];
+
 fn before(rules: &mut Rules, early: Stage, late: Stage) {
     let order = &mut rules.judging.order;
     order.retain(|&stage| stage != early);
@@ -143,9 +224,17 @@ fn before(rules: &mut Rules, early: Stage, late: Stage) {
     order.insert(place, early);
 }
 
-/// In how many committed cases each variant answers otherwise.
 fn told_apart(variants: &[Variant]) {
-    let cases = committed::cases();
+    told_apart_by(committed::cases().into_iter().filter(|case| case.call != Call::Sweep), variants);
+}
+
+fn told_apart_by_sweeps(variants: &[Variant]) {
+    told_apart_by(committed::sweeps().into_iter(), variants);
+}
+
+/// In how many of the cases each variant answers otherwise.
+fn told_apart_by(cases: impl Iterator<Item = Case>, variants: &[Variant]) {
+    let cases: Vec<Case> = cases.collect();
     let document = Rules::document();
     let right: Vec<_> = cases.iter().map(|case| calls::answer(case, &document)).collect();
     for (name, change) in variants {
@@ -181,4 +270,14 @@ fn wrong_ways_of_putting_back_are_told_apart() {
 #[test]
 fn wrong_judging_is_told_apart() {
     told_apart(&WRONG_JUDGING);
+}
+
+#[test]
+fn wrong_sweeps_are_told_apart() {
+    told_apart_by_sweeps(&WRONG_SWEEPS);
+}
+
+#[test]
+fn wrong_refusals_of_sweeps_are_told_apart() {
+    told_apart_by_sweeps(&WRONG_REFUSALS_OF_SWEEPS);
 }

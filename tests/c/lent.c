@@ -1,5 +1,6 @@
 /* Calls with short buffers, empty files and every reply, in several threads at once, and compares every byte that was
-   lent, and those around it, with what the header promises. The expectations are written by hand from document 01. */
+   lent, and those around it, with what the header promises. The expectations are written by hand from document 01 and
+   request #103. */
 #include "meadcinder.h"
 
 typedef meadcinder_size size;
@@ -21,7 +22,7 @@ int pthread_join(size thread, void **result);
 
 /* Files too long to be written out; see make_long_files. */
 static char entries_97[97 * 3 + 1], lines_129[129 * 13 + 1], texts_64[64 * 13 + 1], texts_64_twice[128 * 13 + 1];
-static char texts_65[65 * 13 + 1], full[128 * 77 + 1], full_changed[128 * 77 + 1];
+static char texts_65[65 * 13 + 1], full[128 * 77 + 1], full_changed[128 * 77 + 1], numbers_128[128 * 5 + 1];
 
 enum call { SHOW, PUT_BACK };
 
@@ -77,8 +78,40 @@ static const struct lending lendings[] = {
     {PUT_BACK, MASTER, COMPARING, "0001010002027878\n", ROOM, MEADCINDER_CLASH, 2, ""},
 };
 
+struct sweeping {
+    const char *master;
+    size room, numbers_room;
+    unsigned number, place;
+    const char *output, *numbers;
+};
+
+#define NUMBERS MEADCINDER_NUMBERS_ROOM
+/* Two deleted nodes, one in the other; behind the inner one comes a text that only the outer one has in it. */
+#define DELETED_TWICE                                                                                                 \
+    "00020000000164\n01020200010177\n02020200020177\n0301000003016E\n0201000004016D\n0101010005026869\n"
+#define SWEPT_TWICE "00020000000164\n0101000001026869\n"
+
+static const struct sweeping sweepings[] = {
+    {MASTER, ROOM, NUMBERS, 0, 0, MASTER, "0000\n0001\n0002\n0003\n0004\n"},
+    {HEAD "0201020004026C6F\n", ROOM, NUMBERS, 0, 0, HEAD, "0000\n0001\n0002\n0003\nFFFF\n"},
+    {DELETED_TWICE, ROOM + 1, NUMBERS, 0, 0, SWEPT_TWICE, "0000\nFFFF\nFFFF\nFFFF\nFFFF\n0001\n"},
+    {SWEPT_TWICE, ROOM, NUMBERS + 1, 0, 0, SWEPT_TWICE, "0000\n0001\n"},
+    {"00020200000164\n01010000010168\n", ROOM, NUMBERS, 0, 0, "", "FFFF\nFFFF\n"},
+    {"00020200000164\n00010000010168\n", ROOM, NUMBERS, 0, 0, "00010000000168\n", "FFFF\n0000\n"},
+    {"", ROOM, NUMBERS, 0, 0, "", ""},
+    {full, ROOM, NUMBERS, 0, 0, full, numbers_128},
+    {full_changed, ROOM, NUMBERS, 0, 0, full, numbers_128},
+    {MASTER, ROOM - 1, NUMBERS, MEADCINDER_SHORT_BUFFER, 0, "", ""},
+    {MASTER, ROOM, NUMBERS - 1, MEADCINDER_SHORT_BUFFER, 0, "", ""},
+    {"wrong", 0, NUMBERS, MEADCINDER_SHORT_BUFFER, 0, "", ""},
+    {"wrong", ROOM, 0, MEADCINDER_SHORT_BUFFER, 0, "", ""},
+    {HEAD "02010200040\n", ROOM, NUMBERS, MEADCINDER_MASTER_FORM, 4, "", ""},
+    {lines_129, ROOM, NUMBERS, MEADCINDER_MASTER_FORM, 128, "", ""},
+    {"00020200000164\n01020001000177\n", ROOM, NUMBERS, MEADCINDER_MASTER_BOUNDS, 1, "", ""},
+};
+
 /* Everything that a call could reach lies in one place, with a margin around each buffer. */
-enum { MARGIN = 64, PLACE = 10240, PLACES = 4 };
+enum { MARGIN = 64, PLACE = 10240, PLACES = 5 };
 static _Thread_local unsigned char lent[PLACES * PLACE], promised[PLACES * PLACE];
 
 static unsigned char *buffer(int place) { return lent + place * PLACE + MARGIN; }
@@ -86,6 +119,15 @@ static unsigned char *buffer(int place) { return lent + place * PLACE + MARGIN; 
 static size lend_file(int place, const char *file) {
     memcpy(buffer(place), file, strlen(file));
     return strlen(file);
+}
+
+static void promise_lines(int place, const char *lines) {
+    memcpy(promised + (buffer(place) - lent), lines, strlen(lines));
+}
+
+static int answered_as_promised(meadcinder_answer answer, unsigned number, unsigned place, const char *output) {
+    return MEADCINDER_NUMBER(answer) == number && MEADCINDER_PLACE(answer) == place &&
+           MEADCINDER_LENGTH(answer) == strlen(output) && memcmp(lent, promised, sizeof lent) == 0;
 }
 
 /* `behind` is what every byte holds that is not part of a file. */
@@ -97,13 +139,24 @@ static int as_promised(const struct lending *it, int behind) {
     program = lend_file(1, it->program);
     view = lend_file(2, it->view);
     memcpy(promised, lent, sizeof lent);
-    memcpy(promised + (buffer(3) - lent), it->output, strlen(it->output));
+    promise_lines(3, it->output);
     if (it->call == SHOW)
         answer = meadcinder_show(buffer(0), master, buffer(1), program, buffer(3), it->room);
     else
         answer = meadcinder_put_back(buffer(0), master, buffer(1), program, buffer(2), view, buffer(3), it->room);
-    return MEADCINDER_NUMBER(answer) == it->number && MEADCINDER_PLACE(answer) == it->place &&
-           MEADCINDER_LENGTH(answer) == strlen(it->output) && memcmp(lent, promised, sizeof lent) == 0;
+    return answered_as_promised(answer, it->number, it->place, it->output);
+}
+
+static int swept_as_promised(const struct sweeping *it, int behind) {
+    size master;
+    meadcinder_answer answer;
+    memset(lent, behind, sizeof lent);
+    master = lend_file(0, it->master);
+    memcpy(promised, lent, sizeof lent);
+    promise_lines(3, it->output);
+    promise_lines(4, it->numbers);
+    answer = meadcinder_sweep(buffer(0), master, buffer(3), it->room, buffer(4), it->numbers_room);
+    return answered_as_promised(answer, it->number, it->place, it->output);
 }
 
 static void write_pair(char *to, unsigned byte) {
@@ -127,22 +180,42 @@ static void make_long_files(void) {
     write_texts(texts_65, 65, 0, 0);
     write_texts(full, 128, 32, 0);
     write_texts(full_changed, 128, 32, 1);
+    for (int line = 0; line < 128; line++) {
+        memcpy(numbers_128 + 5 * line, "00__\n", 5);
+        write_pair(numbers_128 + 5 * line + 2, (unsigned)line);
+    }
     memcpy(texts_64_twice, texts_64, 64 * 13);
     memcpy(texts_64_twice + 64 * 13, texts_64, 64 * 13);
 }
 
-enum { COUNT = sizeof lendings / sizeof lendings[0], THREADS = 4, TIMES = 25 };
+enum { THREADS = 4, TIMES = 25 };
+enum { LENDINGS = sizeof lendings / sizeof lendings[0], SWEEPINGS = sizeof sweepings / sizeof sweepings[0] };
 
-/* Answers a null pointer if all is as promised. */
+/* Each answers a null pointer if all is as promised. */
 static void *lend_all(void *unused) {
-    for (int i = 0; i < TIMES * COUNT; i++) {
-        const struct lending *it = &lendings[i % COUNT];
+    for (int i = 0; i < TIMES * LENDINGS; i++) {
+        const struct lending *it = &lendings[i % LENDINGS];
         if (as_promised(it, 0xA5) && as_promised(it, 0x30)) continue;
-        printf("lending %d is not as promised: %s, reply %u at %u\n", i % COUNT, it->call == SHOW ? "show" : "put back",
-               it->number, it->place);
+        printf("lending %d is not as promised: %s, reply %u at %u\n", i % LENDINGS,
+               it->call == SHOW ? "show" : "put back", it->number, it->place);
         return lent;
     }
     return unused;
+}
+
+static void *sweep_all(void *unused) {
+    for (int i = 0; i < TIMES * SWEEPINGS; i++) {
+        const struct sweeping *it = &sweepings[i % SWEEPINGS];
+        if (swept_as_promised(it, 0xA5) && swept_as_promised(it, 0x30)) continue;
+        printf("sweeping %d is not as promised: reply %u at %u\n", i % SWEEPINGS, it->number, it->place);
+        return lent;
+    }
+    return unused;
+}
+
+static void *call_all(void *unused) {
+    void *wrong = lend_all(unused);
+    return wrong ? wrong : sweep_all(unused);
 }
 
 int main(void) {
@@ -150,11 +223,11 @@ int main(void) {
     int broken = 0;
     make_long_files();
     for (int i = 0; i < THREADS; i++)
-        if (pthread_create(&threads[i], 0, lend_all, 0)) return 1;
+        if (pthread_create(&threads[i], 0, call_all, 0)) return 1;
     for (int i = 0; i < THREADS; i++) {
         void *result = lent;
         broken |= pthread_join(threads[i], &result) || result;
     }
-    if (!broken) printf("%d calls, every byte as promised\n", THREADS * TIMES * 2 * COUNT);
+    if (!broken) printf("%d calls, every byte as promised\n", THREADS * TIMES * 2 * (LENDINGS + SWEEPINGS));
     return broken;
 }

@@ -40,11 +40,11 @@ static const struct chain chains[] = {
 
 enum { ROOM = 1 << 20, PAINT = 0xA5 };
 static unsigned char stack[ROOM] __attribute__((aligned(4096)));
-static unsigned char view[MEADCINDER_OUTPUT_ROOM], output[MEADCINDER_OUTPUT_ROOM];
+static unsigned char view[MEADCINDER_OUTPUT_ROOM], output[MEADCINDER_OUTPUT_ROOM], numbers[MEADCINDER_NUMBERS_ROOM];
 static char program[4096];
 static const char *master;
 static size top;
-static meadcinder_answer shown, returned;
+static meadcinder_answer shown, returned, swept;
 
 static const unsigned char *bytes(const char *text) { return (const unsigned char *)text; }
 
@@ -58,6 +58,12 @@ static void *put_back(void *unused) {
     top = (size)__builtin_frame_address(0);
     returned = meadcinder_put_back(bytes(master), strlen(master), bytes(program), strlen(program), view,
                                    MEADCINDER_LENGTH(shown), output, sizeof output);
+    return unused;
+}
+
+static void *sweep(void *unused) {
+    top = (size)__builtin_frame_address(0);
+    swept = meadcinder_sweep(bytes(master), strlen(master), output, sizeof output, numbers, sizeof numbers);
     return unused;
 }
 
@@ -92,9 +98,20 @@ static int too_much(const struct chain *chain) {
     return 1;
 }
 
+/* A sweep runs no program: one master will do, here with a deleted node. */
+static int sweep_too_much(void) {
+    size sweeping;
+    master = NESTED "00020200080165\n";
+    sweeping = used(sweep);
+    printf("a sweep, which runs no program: %lu bytes of stack\n", sweeping);
+    if (MEADCINDER_NUMBER(swept) == MEADCINDER_DONE) return sweeping > MEADCINDER_STACK;
+    printf("the sweep was refused: %lX\n", swept);
+    return 1;
+}
+
 int main(void) {
     int failed = 0;
     printf("%-24s %7s %7s   bytes of stack, at most %d\n", "12 levels of", "show", "putback", MEADCINDER_STACK);
     for (size i = 0; i < sizeof chains / sizeof chains[0]; i++) failed |= too_much(&chains[i]);
-    return failed;
+    return failed | sweep_too_much();
 }

@@ -6,7 +6,8 @@ UNREADABLE_FILE = 0xFF
 
 MEANINGS = {
     0: "done",
-    1: "the output buffer has less than 9,856 bytes, or the work slice less than 16,384 numbers",
+    1: "the output buffer has less than 9,856 bytes, the work slice less than 16,384 numbers, "
+    "or a sweep's second output less than 640 bytes",
     2: "line {place} of the program has not the form of a program line, or is one line too many",
     3: "entry {place} of the program breaks its tree or a bound, is missing, or is left over",
     4: "line {place} of the master has not the form of a node line, or is one line too many",
@@ -30,7 +31,7 @@ def explain(number, place):
 
 
 def split_reply(line):
-    """Number, place and length of the first line that show and putback print."""
+    """Number, place and length of the first line that the programs print."""
     if len(line) != 5:
         raise Unreadable(f"a reply line has 5 bytes, this one has {len(line)}")
     return line[0], int.from_bytes(line[1:3], "big"), int.from_bytes(line[3:5], "big")

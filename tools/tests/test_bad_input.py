@@ -89,6 +89,19 @@ class BadInput(unittest.TestCase):
             with self.subTest(content=content):
                 self.assert_refused(["answer", "view"], content, line, reason)
 
+    def test_answers_to_a_sweep(self):
+        for content, line, reason in (
+            (b"0000000011\n0001000000026869", 1, "17 bytes follow, and 16 do"),
+            (b"0000000000\n0000\nFFF\n", 3, "odd number of characters"),
+            (b"0000000011\n0001000000026869\n0000\n00\n", 4, "a number line has 2 bytes, this one has 1"),
+            (b"0000000011\n0001000000026869\n0000", 3, "lacks its end"),
+        ):
+            with self.subTest(content=content):
+                self.assert_refused(["answer", "swept"], content, line, reason)
+
+    def test_only_a_sweep_has_number_lines(self):
+        self.assert_refused(["answer", "master"], b"0000000000\n0000\n", 1, "0 bytes follow, and 5 do")
+
     def test_a_program_has_no_nodes_to_compare(self):
         self.assert_refused(["diff", self.file], b"program\nsource\n", 1, "a master or a view is wanted")
 

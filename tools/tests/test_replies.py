@@ -6,7 +6,7 @@ from .command import meadcinder
 
 NAMED = {
     0: ("done",),
-    1: ("output buffer", "9,856", "work slice", "16,384"),
+    1: ("output buffer", "9,856", "work slice", "16,384", "second output", "640"),
     2: ("line 7 of the program", "form"),
     3: ("entry 7 of the program", "tree", "bound", "missing", "left over"),
     4: ("line 7 of the master", "form"),

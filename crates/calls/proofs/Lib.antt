@@ -20,3 +20,5 @@ pub mod Sources
 pub mod Carried
 pub mod Carrying
 pub mod Comparing
+-- A sweep: its room, and what its writers leave
+pub mod Swept

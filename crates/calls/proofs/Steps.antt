@@ -104,19 +104,13 @@ within : (v : Value) → length v ≤ mostNodes → Shallow v → withinBounds v
 unfolding withinBounds
 within v a b = rw (le-leb (length v) mostNodes a, low v b) refl
 
--- ## Program and master, by their lines
+-- ## A master by its lines
 
-module _ {program starts ends master places : List ℕ} {putting : Bool} {e n : ℕ} (p : ProgramGoes program starts ends e) (m : MasterGoes putting master places n) where
-  abbrev E : List Entry
-  E = entriesOf program (take (e - 0) starts)
-
-  abbrev L : List Line
+module _ {putting : Bool} {master places : List ℕ} {n : ℕ} (m : MasterGoes putting master places n) where
+  abbrev pub L : List Line
   L = linesOf master (take (n - 0) places)
 
-  entries-are : entries program ≡ E
-  entries-are = p .lines ∙ ap (λ (k : ℕ). entriesOf program (take k starts)) (sym (sub-zero e))
-
-  lines-are : nodes master ≡ L
+  pub lines-are : nodes master ≡ L
   lines-are = m .lines ∙ ap (λ (k : ℕ). linesOf master (take k places)) (sym (sub-zero n))
 
   passed : MasterPassed putting master (nodes master)
@@ -124,6 +118,21 @@ module _ {program starts ends master places : List ℕ} {putting : Bool} {e n : 
 
   pub few-lines : length L ≤ 128
   few-lines = subst (λ (ls : List Line). length ls ≤ 128) lines-are (passed .holds .few)
+
+  pub form : AllWritable L
+  form = subst AllWritable lines-are (m .form)
+
+  bounds : masterBounds L ≡ Fine
+  bounds = subst (λ (ls : List Line). masterBounds ls ≡ Fine) lines-are (passed .bounds)
+
+-- ## Program and master, by their lines
+
+module _ {program starts ends master places : List ℕ} {putting : Bool} {e n : ℕ} (p : ProgramGoes program starts ends e) (m : MasterGoes putting master places n) where
+  abbrev E : List Entry
+  E = entriesOf program (take (e - 0) starts)
+
+  entries-are : entries program ≡ E
+  entries-are = p .lines ∙ ap (λ (k : ℕ). entriesOf program (take k starts)) (sym (sub-zero e))
 
   few-entries : length E ≤ 96
   few-entries = let a = length-map (take (e - 0) starts) (entryAt program) in let b = length-take (e - 0) starts in let k = p .few in omega arith
@@ -134,45 +143,40 @@ module _ {program starts ends master places : List ℕ} {putting : Bool} {e n : 
   pub stands : Stands E (p .tree) 0 (length E)
   stands = program-placed E (p .tree) reads .stands
 
-  pub runnable : Runnable E (take (e - 0) ends) L
+  pub runnable : Runnable E (take (e - 0) ends) (L m)
   runnable =
       record {
         few-entries = few-entries;
-        few-lines = few-lines;
+        few-lines = few-lines m;
         ended = subst (λ (es : List Entry). Ended es (take (e - 0) ends)) entries-are (subst (λ (k : ℕ). Ended (entries program) (take k ends)) (sym (sub-zero e)) (p .ended));
         tree = p .tree;
         read = reads;
       }
 
-  form : AllWritable L
-  form = subst AllWritable lines-are (m .form)
-
-  bounds : masterBounds L ≡ Fine
-  bounds = subst (λ (ls : List Line). masterBounds ls ≡ Fine) lines-are (passed .bounds)
-
   -- the run is judged on the lines as the code has them
   ran-here : (rest : Transformation → List Line → Shown → Judged (List Line))
-      → afterRun putting master program rest ≡ (ran (showing (oneMaster L) (p .tree)) >>= (λ o. rest (p .tree) L o))
-  ran-here rest = rw (p .judged, m .judged, lines-are) refl
+      → afterRun putting master program rest ≡ (ran (showing (oneMaster (L m)) (p .tree)) >>= (λ o. rest (p .tree) (L m) o))
+  ran-here rest = rw (p .judged, m .judged, lines-are m) refl
 
-  pub stopped-reaches : (r : Reply) → ((X : Transformation) → readProgram E ≡ gives X → Refuses (ran (showing (oneMaster L) X)) r)
+  pub stopped-reaches : (r : Reply) → ((X : Transformation) → readProgram E ≡ gives X → Refuses (ran (showing (oneMaster (L m)) X)) r)
       → (rest : Transformation → List Line → Shown → Judged (List Line)) → Refuses (afterRun putting master program rest) r
   stopped-reaches r h rest =
-      subst (λ (j : Judged (List Line)). Refuses j r) (sym (ran-here rest)) (refused-first (λ o. rest (p .tree) L o) (ran (showing (oneMaster L) (p .tree))) r (h (p .tree) reads))
+      subst (λ (j : Judged (List Line)). Refuses j r) (sym (ran-here rest))
+      (refused-first (λ o. rest (p .tree) (L m) o) (ran (showing (oneMaster (L m)) (p .tree))) r (h (p .tree) reads))
 
-  pub ran-settles : (rest : Transformation → List Line → Shown → Judged (List Line)) (out out′ : List ℕ) (r : Reply) (o : Shown) → showing (oneMaster L) (p .tree) ≡ gives o
-      → Settles (rest (p .tree) L o) out out′ r → Settles (afterRun putting master program rest) out out′ r
+  pub ran-settles : (rest : Transformation → List Line → Shown → Judged (List Line)) (out out′ : List ℕ) (r : Reply) (o : Shown) → showing (oneMaster (L m)) (p .tree) ≡ gives o
+      → Settles (rest (p .tree) (L m) o) out out′ r → Settles (afterRun putting master program rest) out out′ r
   unfolding ran
   ran-settles rest out out′ r o e h =
       subst (λ (j : Judged (List Line)). Settles j out out′ r) (sym (ran-here rest))
-      (passed-settles (λ o. rest (p .tree) L o) (ran (showing (oneMaster L) (p .tree))) o (ap ran e) out out′ r h)
+      (passed-settles (λ o. rest (p .tree) (L m) o) (ran (showing (oneMaster (L m)) (p .tree))) o (ap ran e) out out′ r h)
 
   -- what was shown fits
-  module _ {w : List ℕ} {len : ℕ} (g : RunGoes E L w len) where
+  module _ {w : List ℕ} {len : ℕ} (g : RunGoes E (L m) w len) where
     abbrev pub o : Shown
     o = g .shows (p .tree) (length E) stands .0
 
-    pub shows : showing (oneMaster L) (p .tree) ≡ gives o
+    pub shows : showing (oneMaster (L m)) (p .tree) ≡ gives o
     shows = g .shows (p .tree) (length E) stands .1
 
     pub shown-value : valueAt (madeBy E) w 128 len ≡ o .value
@@ -180,35 +184,35 @@ module _ {program starts ends master places : List ℕ} {putting : Bool} {e n : 
 
     pub shown-within : withinBounds (valueAt (madeBy E) w 128 len) ≡ true
     shown-within =
-        let good = master-shows-good L few-lines bounds (p .tree) o shows in
+        let good = master-shows-good (L m) (few-lines m) (bounds m) (p .tree) o shows in
         subst (λ v. withinBounds v ≡ true) (sym shown-value) (within (o .value) (good .few) (good .low))
 
-    pub fresh-form : AllWritable (viewLines E L w len)
+    pub fresh-form : AllWritable (viewLines E (L m) w len)
     fresh-form =
-        subst (λ v. AllWritable (view (oneMaster L) v)) (sym shown-value)
-        (fresh-writable program (p .tree) (p .judged) L form few-lines bounds o shows)
+        subst (λ v. AllWritable (view (oneMaster (L m)) v)) (sym shown-value)
+        (fresh-writable program (p .tree) (p .judged) (L m) (form m) (few-lines m) (bounds m) o shows)
 
-    pub fresh-short : length (fileOf (viewLines E L w len)) ≤ outRoom
+    pub fresh-short : length (fileOf (viewLines E (L m) w len)) ≤ outRoom
     fresh-short =
-        file-short (viewLines E L w len) fresh-form
-        (subst (λ k. k ≤ 128) (sym (length-view L (valueAt (madeBy E) w 128 len) ∙ ap length shown-value)) (fresh-few L few-lines bounds (p .tree) o shows))
+        file-short (viewLines E (L m) w len) fresh-form
+        (subst (λ k. k ≤ 128) (sym (length-view (L m) (valueAt (madeBy E) w 128 len) ∙ ap length shown-value)) (fresh-few (L m) (few-lines m) (bounds m) (p .tree) o shows))
 
-    pub view-room : (out : List ℕ) → outRoom ≤ length out → workRoom ≤ length w → ViewRoom E L w len out
+    pub view-room : (out : List ℕ) → outRoom ≤ length out → workRoom ≤ length w → ViewRoom E (L m) w len out
     view-room out a b = let k = g .few in let s = fresh-short in record { inside = omega arith; bounds = shown-within; room = omega arith }
 
-    pub comparable : (out : List ℕ) → outRoom ≤ length out → workRoom ≤ length w → Comparable E (take (e - 0) ends) L len w out
+    pub comparable : (out : List ℕ) → outRoom ≤ length out → workRoom ≤ length w → Comparable E (take (e - 0) ends) (L m) len w out
     comparable out a b =
-        record { runnable = runnable; goes = g; shallow = shown-within; form = form; bounds = bounds; fresh-form = fresh-form; room = a; work-room = b }
+        record { runnable = runnable; goes = g; shallow = shown-within; form = form m; bounds = bounds m; fresh-form = fresh-form; room = a; work-room = b }
 
     -- the view's lines are what is shown
-    pub shown-settles : (out out′ : List ℕ) (end : ℕ) → WroteLines (viewLines E L w len) out out′ end → (r : Reply) → r ≡ replied 0 0 end
+    pub shown-settles : (out out′ : List ℕ) (end : ℕ) → WroteLines (viewLines E (L m) w len) out out′ end → (r : Reply) → r ≡ replied 0 0 end
         → Settles (afterRun putting master program (λ X ls o. gives (view (oneMaster ls) (o .value)))) out out′ r
     shown-settles out out′ end h r e =
         ran-settles (λ X ls o. gives (view (oneMaster ls) (o .value))) out out′ r o shows
-        (written-settles (view (oneMaster L) (o .value)) out out′ end (subst (λ v. WroteLines (view (oneMaster L) v) out out′ end) shown-value h) r e)
+        (written-settles (view (oneMaster (L m)) (o .value)) out out′ end (subst (λ v. WroteLines (view (oneMaster (L m)) v) out out′ end) shown-value h) r e)
 
     -- the edits carried back are what is left of putting back
-    pub compared-settles : (edited out out′ : List ℕ) (r : Reply) → ComparedBack E L edited out out′ r
+    pub compared-settles : (edited out out′ : List ℕ) (r : Reply) → ComparedBack E (L m) edited out out′ r
         → Settles (afterRun putting master program (λ X ls o. judgedView (view (oneMaster ls) (o .value)) edited >>= (λ es. judgedStandings (oneMaster ls) X es))) out out′ r
     compared-settles edited out out′ r h =
         ran-settles (λ X ls o. judgedView (view (oneMaster ls) (o .value)) edited >>= (λ es. judgedStandings (oneMaster ls) X es)) out out′ r o shows (h (p .tree) reads o shows)

@@ -57,7 +57,7 @@ unfoldable pub ran : Result Stop Shown → Judged Shown
 ran (gives o) = gives o
 ran (stops s) = stops (reply (stopNumber s) (stopEntry s))
 
--- ## The two calls: the output lines, or the refusal
+-- ## Showing and putting back: the output lines, or the refusal
 
 -- the program's tree
 unfoldable pub judgedProgram : List ℕ → Judged Transformation

@@ -1,4 +1,4 @@
--- What a call leaves: its number, place and length, the output buffer and the work slice.
+-- What a call leaves: its number, place and length, the output buffer, and the second slice that it was lent: here the work slice, of a sweep its second output.
 use Prim.Native.Nat.{ℕ}
 use mathlib.Core.Bool.{Bool, cond, _&&_}
 use mathlib.Core.List.{List}
@@ -10,7 +10,7 @@ use Rattle.runs.specs.Results.{gives, stops}
 use Rattle.calls.specs.Judging.{Judged, judgedShow, judgedPutBack}
 
 pub data Outcome : Type 0 where
-  outcome : (number place length : ℕ) (out work : List ℕ) → Outcome
+  outcome : (number place length : ℕ) (out second : List ℕ) → Outcome
 
 -- "Output buffer at least 9,856 bytes. Work slice at least 16,384 numbers of 32 bits"
 abbrev pub outRoom : ℕ

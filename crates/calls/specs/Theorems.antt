@@ -17,3 +17,7 @@ pub mod ShownNumbers
 pub mod EditedLines
 pub mod ClashSearch
 pub mod Demand3
+-- The call sweep: its contract decides, and it is what its request asks; no other is; after a put-back it is what the edits say
+pub mod Sweeping
+pub mod SweepDecided
+pub mod SweptEdits

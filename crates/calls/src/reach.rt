@@ -1,4 +1,4 @@
-// Replies 2 to 7, which both calls judge first.
+// Replies 2 to 7, which showing and putting back judge first.
 use crate::files::judge_master;
 use crate::files::judge_program;
 use crate::reply::Reply;

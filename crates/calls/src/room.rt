@@ -3,6 +3,9 @@
 // The bytes of the output buffer, and of the fresh view while putting back.
 pub const OUT_ROOM: usize = 9856;
 
+// The bytes of a sweep's second output: five for each of 128 nodes.
+pub const NUMBERS_ROOM: usize = 640;
+
 // The words of the work slice.
 pub const WORK_ROOM: usize = 16384;
 

@@ -20,7 +20,7 @@ pub struct Head {
     pub number: u16,
 }
 
-fn put_byte(out: &mut [u8], pos: usize, b: u8)
+pub fn put_byte(out: &mut [u8], pos: usize, b: u8)
     requires { ⌜ pos + 2 ≤ length (now out) ⌝ }
     ensures { λ r. ⌜ now (out .exit) ≡ sets (now (out .entry)) pos (encode (b ∷ [])) ⌝ }
 {

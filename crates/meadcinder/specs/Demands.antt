@@ -1,14 +1,17 @@
--- The three demands of what a form for C leaves, as a host reads it. The buffers that suffice are an output and the form's own work slice.
+-- The three demands of what a form for C leaves, as a host reads it. The buffers that suffice are an output and the form's own work slice. Then what is asked of a sweep.
 use Prim.Native.Nat.{ℕ}
 use mathlib.Core.Path.{_≡_}
-use mathlib.Core.Bool.{true}
+use mathlib.Core.Bool.{true, false}
 use mathlib.Core.List.{List}
-use Rattle.lines.specs.Nodes.{nodes}
+use Rattle.lines.specs.Nodes.{Line, nodes}
+use Rattle.runs.specs.Results.{gives}
 use Rattle.runs.specs.Grounds.{oneMaster, view}
-use Rattle.calls.specs.Judging.{judgedShow, judgedPutBack}
+use Rattle.calls.specs.Judging.{judgedMaster, judgedShow, judgedPutBack}
 use Rattle.calls.specs.Outcomes.{enough, showCall}
 use Rattle.calls.specs.Demands.{numberOf, written, RefusesRightly, WritesRightly, Given, Answers, SameLines}
-use Rattle.meadcinder.specs.Forms.{PackedOutcome, ownWork, asRead, ShowsInC}
+use Rattle.calls.specs.Sweeping.{enoughForBoth, sweepCall}
+use Rattle.calls.specs.SweepDemands.{SweepRefuses, SweepAnswers}
+use Rattle.meadcinder.specs.Forms.{PackedOutcome, ownWork, asRead, ShowsInC, bothAsRead, SweepsInC}
 
 -- demand 1
 abbrev pub ShowDemand1 : (master program out : List ℕ) → PackedOutcome → Type 0
@@ -32,3 +35,14 @@ pub record Demand3 (master program edited out : List ℕ) (given : Given master 
       → (shown : PackedOutcome) → ShowsInC (written (asRead left)) program out₂ shown
       → (numberOf (asRead shown) ≡ 0)
       × SameLines (view (oneMaster (given .lines)) (given .shown .value)) (nodes (written (asRead left))) (nodes (written (asRead shown)))
+
+-- ## Request #103
+
+pub record SweepDemand (master out numbers : List ℕ) (answer : ℕ) (out′ numbers′ : List ℕ) : Type 0 where
+  pub refuses : SweepRefuses master out numbers (bothAsRead answer out′ numbers′)
+  pub answers : enoughForBoth out numbers ≡ true → (ls : List Line) → judgedMaster false master ≡ gives ls
+      → SweepAnswers sweepCall master out numbers ls (bothAsRead answer out′ numbers′)
+  -- "Sweeping twice equals sweeping once": with the form too
+  pub twice : enoughForBoth out numbers ≡ true → (ls : List Line) → judgedMaster false master ≡ gives ls → let swept = written (bothAsRead answer out′ numbers′) in
+      (out₂ numbers₂ : List ℕ) → enoughForBoth out₂ numbers₂ ≡ true → (again : ℕ) (out₂′ numbers₂′ : List ℕ) → SweepsInC swept out₂ numbers₂ again out₂′ numbers₂′
+      → (numberOf (bothAsRead again out₂′ numbers₂′) ≡ 0) × (written (bothAsRead again out₂′ numbers₂′) ≡ swept)

@@ -4,6 +4,7 @@ use mathlib.Core.Path.{_≡_}
 use mathlib.Core.List.{List}
 use lib.ListN.{replicate}
 use Rattle.calls.specs.Outcomes.{Outcome, outcome, workRoom, showCall, putBackCall}
+use Rattle.calls.specs.Sweeping.{sweepCall}
 
 pub data PackedOutcome : Type 0 where
   packed : (answer : ℕ) (out : List ℕ) → PackedOutcome
@@ -44,3 +45,12 @@ pub record ShowsInC (master program out : List ℕ) (left : PackedOutcome) : Typ
 pub record PutsBackInC (master program edited out : List ℕ) (left : PackedOutcome) : Type 0 where
   pub packs : left ≡ putBackInC master program edited out
   pub reads : asRead left ≡ putBackCall master program edited out ownWork
+
+-- ## A sweep has two outputs and no work slice
+
+unfoldable pub bothAsRead : (answer : ℕ) (out numbers : List ℕ) → Outcome
+bothAsRead answer out numbers = outcome (numberIn answer) (placeIn answer) (lengthIn answer) out numbers
+
+pub record SweepsInC (master out numbers : List ℕ) (answer : ℕ) (out′ numbers′ : List ℕ) : Type 0 where
+  pub packs : packed answer out′ ≡ inOne (sweepCall master out numbers)
+  pub reads : bothAsRead answer out′ numbers′ ≡ sweepCall master out numbers

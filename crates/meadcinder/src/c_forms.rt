@@ -1,11 +1,12 @@
-// The calls for hosts written in C: byte slices only, a work slice of their own, the answer in one number.
+// The calls for hosts written in C: byte slices only, a work slice of their own where one is needed, the answer in one number.
 use calls::put_back::put_back;
 use calls::reply::Reply;
 use calls::room::WORK_ROOM;
 use calls::show::show;
+use calls::sweep::sweep;
 ghost use mathlib.Core.Path.{_≡_};
 ghost use Prim.Native.Nat.{_+_, _*_};
-ghost use Rattle.meadcinder.specs.Forms.{packed, numberIn, placeIn, lengthIn, ShowsInC, PutsBackInC};
+ghost use Rattle.meadcinder.specs.Forms.{packed, numberIn, placeIn, lengthIn, ShowsInC, PutsBackInC, SweepsInC};
 
 // Packed as document 01 says; the header's macros take the three numbers out again.
 fn in_one(reply: Reply) -> u64
@@ -34,4 +35,11 @@ pub extern "C" fn meadcinder_put_back(
 {
     let mut work = [0u32; WORK_ROOM];
     in_one(put_back(master, program, view, out, &mut work))
+}
+
+#[no_mangle]
+pub extern "C" fn meadcinder_sweep(master: &[u8], out: &mut [u8], numbers: &mut [u8]) -> u64
+    ensures { λ r. ⌜ SweepsInC (now (master .entry)) (now (out .entry)) (now (numbers .entry)) r (now (out .exit)) (now (numbers .exit)) ⌝ }
+{
+    in_one(sweep(master, out, numbers))
 }

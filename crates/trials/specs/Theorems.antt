@@ -6,5 +6,7 @@ pub mod Cases
 pub mod Bench
 pub mod EveryReply
 pub mod Demand3Cases
+pub mod SweepCases
 -- Calls that do not meet the demands, nor our contracts
 pub mod Trials
+pub mod SweepTrials

@@ -139,11 +139,11 @@ pub fn put_back<S: AsRef<str>, T: AsRef<str>, U: AsRef<str>>(
 }
 
 pub fn done<S: AsRef<str>>(output: &[S]) -> Reply {
-    Reply { number: 0, place: 0, output: file(output) }
+    Reply::done(file(output))
 }
 
 pub fn refused(number: u8, place: usize) -> Reply {
-    Reply { number, place, output: Vec::new() }
+    Reply::refusal(number, place)
 }
 
 /// A file of these lines.

@@ -1,4 +1,5 @@
-//! The bench examples; and seeded cases: each aims at a reply, some at two, and most at none.
+//! The bench examples and the edges of sweeping; and seeded cases: each aims at a reply, some at two,
+//! and most at none.
 
 pub mod bench;
 mod build;
@@ -8,6 +9,8 @@ mod edits;
 mod faults;
 mod masters;
 mod programs;
+pub mod sweep_edges;
+pub mod sweeps;
 mod templates;
 mod words;
 
@@ -57,6 +60,9 @@ const AIMS: [Aim; 11] = [
 const SHOW_WEIGHTS: [usize; 11] = [48, 6, 8, 10, 7, 8, 7, 7, 0, 0, 0];
 const PUT_BACK_WEIGHTS: [usize; 11] = [62, 3, 4, 5, 4, 5, 3, 4, 6, 8, 6];
 
+const WORK_ROOMS: SecondRooms =
+    SecondRooms { enough: [16_384, 16_385, 20_000, 20_480], short: [16_383, 16_383, 128, 0] };
+
 /// In entries.
 const LONGEST_PROGRAM: usize = 96;
 
@@ -67,6 +73,7 @@ pub fn cases(seed: u64, count: usize) -> Vec<Case> {
     (0..count).map(|index| case(seed, index)).collect()
 }
 
+/// A show or a put back; the sweeps have a stream of their own.
 pub fn case(seed: u64, index: usize) -> Case {
     let mut chance = Chance::of_case(seed, index);
     let call = match chance.percent(PUT_BACK_SHARE) {
@@ -77,17 +84,17 @@ pub fn case(seed: u64, index: usize) -> Case {
     let (master, program) = ground(&mut chance, &aims);
     let run = run(&master, &program);
     let view = match (call, run) {
-        (Call::Show, _) => Vec::new(),
         (Call::PutBack, Ok((fresh, compared))) => view(&mut chance, &aims, &fresh, &compared),
         (Call::PutBack, Err(_)) => master.clone(),
+        _ => Vec::new(),
     };
     files(&mut chance, call, &aims, (master, program), &view)
 }
 
 fn aims(chance: &mut Chance, call: Call) -> Vec<Aim> {
     let weights = match call {
-        Call::Show => &SHOW_WEIGHTS,
         Call::PutBack => &PUT_BACK_WEIGHTS,
+        _ => &SHOW_WEIGHTS,
     };
     let mut aims = vec![AIMS[chance.weighted(weights)]];
     if aims[0] != Aim::Through && chance.percent(SECOND_AIM_SHARE) {
@@ -209,20 +216,26 @@ fn files(
     if call == Call::Show {
         case.view.clear();
     }
-    rooms(chance, aims.contains(&Aim::Rooms), &mut case);
+    rooms(chance, aims.contains(&Aim::Rooms), &mut case, &WORK_ROOMS);
     case
 }
 
-fn rooms(chance: &mut Chance, short: bool, case: &mut Case) {
+/// The second rooms that a case of a call may have; of the short ones the first is the largest.
+struct SecondRooms {
+    enough: [u32; 4],
+    short: [u32; 4],
+}
+
+fn rooms(chance: &mut Chance, short: bool, case: &mut Case, second: &SecondRooms) {
     if chance.percent(30) {
         case.output_room = *chance.pick(&[9_856, 9_857, 12_000, 16_384]);
-        case.work_room = *chance.pick(&[16_384, 16_385, 20_000, 20_480]);
+        case.second_room = *chance.pick(&second.enough);
     }
     if short {
         match chance.below(3) {
             0 => case.output_room = *chance.pick(&[9_855, 9_855, 34, 0]),
-            1 => case.work_room = *chance.pick(&[16_383, 16_383, 128, 0]),
-            _ => (case.output_room, case.work_room) = (9_855, 16_383),
+            1 => case.second_room = *chance.pick(&second.short),
+            _ => (case.output_room, case.second_room) = (9_855, second.short[0]),
         }
     }
 }

@@ -97,7 +97,7 @@ abbrev pub RanBy : List Entry → List Line → List ℕ → Step → Type 0
 RanBy E L w (Goes len) = RunGoes E L w len
 RanBy E L w (Refused r) = (X : Transformation) → readProgram E ≡ gives X → Refuses (ran (showing (oneMaster L) X)) r
 
--- what both calls judge first, and what each does with it
+-- what showing and putting back judge first, and what each does with it
 abbrev pub afterRun : Bool → List ℕ → List ℕ → (Transformation → List Line → Shown → Judged (List Line)) → Judged (List Line)
 afterRun putting master program rest =
     judgedProgram program >>= (λ X. judgedMaster putting master >>= (λ ls. ran (showing (oneMaster ls) X) >>= (λ o. rest X ls o)))

@@ -70,6 +70,18 @@ same-through u v w p q = record { mark = sym (p .mark) ∙ q .mark; text = λ m.
 
 -- ## The search
 
+-- a node has an edited line, or none
+abbrev pub EditedOrNot : List Line → ℕ → Type 0
+EditedOrNot ls n = ((i : ℕ) × EditedLine ls n i) ⊎ ((i : ℕ) → EditedLine ls n i → ⊥)
+
+pub edited-or-not : (ls : List Line) (n : ℕ) → EditedOrNot ls n
+unfolding editedBy isMarked
+edited-or-not ls n = go (find (editedBy n) refl ls)
+  where
+    go : ((i : ℕ) × (editedBy n (lineAt ls i) ≡ true)) ⊎ ((i : ℕ) → editedBy n (lineAt ls i) ≡ false) → EditedOrNot ls n
+    go (inl (i, h)) = inl (i, test-edited ls n i h)
+    go (inr h) = inr (λ i p. let t = edited-test ls n i p in let f = h i in let z : _≡_ {A = ℕ} 0 1 = cc in omega arith)
+
 module _ (ls : List Line) (compared : List ℕ) (n : ℕ) where
   -- behind an edited line that no other differs from
   alone : (i : ℕ) → EditedLine ls n i → ((j : ℕ) → EditedLine ls n j → SameEdit (lineAt ls i) (lineAt ls j)) → (b : Bool) → among n compared ≡ b
@@ -94,15 +106,11 @@ module _ (ls : List Line) (compared : List ℕ) (n : ℕ) where
           alone i e (λ j p. test-same (lineAt ls i) (lineAt ls j) (not-false _ (rw (edited-test ls n j p) at (h j)))) (among n compared) refl
 
   acceptable-or-clashes : Acceptable ls compared n ⊎ Clashes ls compared n
-  unfolding editedBy isMarked
-  acceptable-or-clashes = go (find (editedBy n) refl ls)
+  acceptable-or-clashes = go (edited-or-not ls n)
     where
-      go : ((i : ℕ) × (editedBy n (lineAt ls i) ≡ true)) ⊎ ((i : ℕ) → editedBy n (lineAt ls i) ≡ false) → Acceptable ls compared n ⊎ Clashes ls compared n
-      go (inl (i, h)) = behind i (test-edited ls n i h)
-      go (inr h) = inl (record { same = λ i j p q. absurd (never i p); uncompared = λ i p. absurd (never i p) })
-        where
-          never : (i : ℕ) → EditedLine ls n i → ⊥
-          never i p = let t = edited-test ls n i p in let f = h i in let z : _≡_ {A = ℕ} 0 1 = cc in omega arith
+      go : EditedOrNot ls n → Acceptable ls compared n ⊎ Clashes ls compared n
+      go (inl (i, e)) = behind i e
+      go (inr never) = inl (record { same = λ i j p q. absurd (never i p); uncompared = λ i p. absurd (never i p) })
 
   pub unacceptable-clashes : (Acceptable ls compared n → ⊥) → Clashes ls compared n
   unacceptable-clashes f = go acceptable-or-clashes

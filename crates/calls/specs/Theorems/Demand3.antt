@@ -9,15 +9,15 @@ use lib.ListN.{length}
 use Rattle.lines.specs.declared.scan.File.the-variants.{View}
 use Rattle.lines.specs.declared.verdict.Verdict.{Verdict}
 use Rattle.lines.specs.declared.verdict.Verdict.the-variants.{Fine, Fault}
-use Rattle.lines.specs.Nodes.{Line, untouchedMark, programNumber, isMarked, kindRule, nodes, lineAt}
+use Rattle.lines.specs.Nodes.{Line, untouchedMark, programNumber, kindRule, nodes, lineAt}
 use Rattle.lines.specs.Files.{scan}
-use Rattle.lines.specs.Masters.{unmarked}
 use Rattle.lines.specs.Verdicts.{reply}
 use Rattle.lines.specs.Views.{firstDifference, programMark}
 use Rattle.lines.specs.Writing.{fileOf, putAt}
 use Rattle.lines.specs.Theorems.RoundTrip.{nodes-written}
 use Rattle.lines.specs.Theorems.PutAt.{put-front}
 use Rattle.lines.specs.Theorems.LineRules.{fields-at, rule-kind}
+use Rattle.lines.specs.Theorems.MasterRules.{unmarked-at}
 use Rattle.values.specs.Values.{Value}
 use Rattle.values.specs.Standings.{Standing}
 use Rattle.values.specs.Theorems.Copies.{isCopy}
@@ -39,19 +39,14 @@ use Rattle.calls.specs.Theorems.Returned.{Returned, returned-writable}
 use Rattle.calls.specs.Demands.{numberOf, placeOf, written, FromProgram, FromMaster, Given, EditedLine, Acceptable}
 use Rattle.calls.specs.Demands.{Clashes, withEdit, HasEdits, SameLines, Answers, Demand3}
 use Rattle.calls.specs.Theorems.Demand12.{called-gives, called-stops}
-use Rattle.calls.specs.Theorems.ViewEdits.{none-faulty, unmarked-zero, zero-unmarked, edits-pass, pass-edits}
+use Rattle.calls.specs.Theorems.ViewEdits.{zero-unmarked, edits-pass, pass-edits}
 use Rattle.calls.specs.Theorems.ShownNumbers.{line-of, number-copy, copy-or-made, shown-number, handed-kind}
 use Rattle.calls.specs.Theorems.EditedLines.{Edits, rule-mark, marked-edits, edits-marked, edits-edit, edit-edits, brings-same, same-brings, edit-leaves}
 use Rattle.calls.specs.Theorems.ClashSearch.{unacceptable-clashes, acceptable-no-clash}
 
--- a sound unmarked master has no mark at any place
-lines-unmarked : (ls : List Line) → unmarked ls ≡ Fine → (i : ℕ) → (lineAt ls i) .mark ≡ untouchedMark
-unfolding unmarked isMarked
-lines-unmarked ls h i = unmarked-zero (lineAt ls i) (none-faulty isMarked 0 ls _ refl h i)
-
--- nor has a line that it shows
+-- a line that an unmarked master shows has no mark
 fresh-plain : (master : List ℕ) (ls : List Line) → judgedMaster true master ≡ gives ls → (v : Value) (i : ℕ) → (lineAt (view (oneMaster ls) v) i) .mark ≡ untouchedMark
-fresh-plain master ls h = view-mark (oneMaster ls) (one-unmarked 0 ls (lines-unmarked ls (rule-unmarked ls ((master-passed true master ls h) .rule))))
+fresh-plain master ls h = view-mark (oneMaster ls) (one-unmarked 0 ls (unmarked-at ls (rule-unmarked ls ((master-passed true master ls h) .rule))))
 
 -- what is given is no more than that 1 to 10 are passed
 pub pass-given : (master program edited out work : List ℕ) → enough out work ≡ true → (X : Transformation) → judgedProgram program ≡ gives X

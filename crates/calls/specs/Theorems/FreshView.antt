@@ -1,19 +1,20 @@
 -- The fresh view put back returns the master's own bytes.
 use mathlib.Core.Path.{_≡_, refl, sym, ap, subst, _∙_}
-use mathlib.Core.Bool.{Bool, true, false, cond, not, and-false}
+use mathlib.Core.Bool.{true, false, and-false}
 use mathlib.Core.List.{List, [], _∷_}
-use Prim.Native.Nat.{ℕ, zero, suc}
+use Prim.Native.Nat.{ℕ, suc}
 use native.Mathlib.Omega.{arith}
 use lib.Dec.{eqb}
-use lib.ListN.{length, take, getD}
-use borrow.Author.Tests.{eq-eqb, eqb-true}
-use Rattle.lines.specs.declared.verdict.Verdict.the-variants.{Fine, Fault}
-use Rattle.lines.specs.Nodes.{Line, untouchedMark, programNumber, isMarked, nodes, noLine}
+use lib.ListN.{length, take}
+use borrow.Author.Tests.{eq-eqb}
+use Rattle.lines.specs.declared.verdict.Verdict.the-variants.{Fine}
+use Rattle.lines.specs.Nodes.{Line, untouchedMark, programNumber, isMarked, nodes}
 use Rattle.lines.specs.Masters.{unmarked}
 use Rattle.lines.specs.Verdicts.{firstFrom, earlier}
 use Rattle.lines.specs.Views.{sameHead, sameLine, differenceFrom, firstDifference, programMarked, programMark}
 use Rattle.lines.specs.Writing.{fileOf, putAt}
 use Rattle.lines.specs.Theorems.Bools.{or-right}
+use Rattle.lines.specs.Theorems.MasterRules.{unmarked-at}
 use Rattle.values.specs.Values.{Value}
 use Rattle.values.specs.Theorems.MergeLaws.{sameText-refl}
 use Rattle.runs.specs.Results.{gives}
@@ -40,21 +41,6 @@ no-difference k [] = refl
 no-difference k (l ∷ ls) = rw (same-line l) (no-difference (suc k) ls)
 
 -- ## No marks
-
-none-marked : (k : ℕ) (ls : List Line) → firstFrom isMarked k ls ≡ Fine → (i : ℕ) → (getD ls i noLine) .mark ≡ untouchedMark
-unfolding firstFrom isMarked
-none-marked k [] h i = refl
-none-marked k (l ∷ ls) h i = go (eqb (l .mark) untouchedMark) refl h i (λ q. none-marked (suc k) ls q)
-  where
-    go : (b : Bool) → eqb (l .mark) untouchedMark ≡ b → cond (not b) (Fault k) (firstFrom isMarked (suc k) ls) ≡ Fine → (i : ℕ)
-        → (firstFrom isMarked (suc k) ls ≡ Fine → (i : ℕ) → (getD ls i noLine) .mark ≡ untouchedMark) → (getD (l ∷ ls) i noLine) .mark ≡ untouchedMark
-    go true e q zero ih = eqb-true (l .mark) untouchedMark e
-    go true e q (suc i) ih = ih q i
-    go false e q i ih = absurd (let z : _≡_ {A = ℕ} 0 1 = cc in omega arith)
-
-pub unmarked-at : (ls : List Line) → unmarked ls ≡ Fine → (i : ℕ) → (getD ls i noLine) .mark ≡ untouchedMark
-unfolding unmarked
-unmarked-at ls h = none-marked 0 ls h
 
 untouched-line : (l : Line) → l .mark ≡ untouchedMark → programMarked l ≡ false
 unfolding programMarked isMarked

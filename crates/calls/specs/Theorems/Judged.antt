@@ -112,7 +112,7 @@ earlier-fine (Fault i) (Fault j) h = go (leb i j) h
     go true q = (q, cc)
     go false q = (cc, q)
 
--- the bounds hold in both calls
+-- the bounds hold whether marks are allowed or not
 pub rule-bounds : (putting : Bool) (ls : List Line) → masterRule putting ls ≡ Fine → masterBounds ls ≡ Fine
 unfolding masterRule
 rule-bounds false ls h = h
@@ -181,7 +181,7 @@ pub standings-pass : (G : Ground) (X : Transformation) (es : List Line) → firs
 unfolding judgedStandings keeps
 standings-pass G X es h = rw h
 
--- ## The two calls
+-- ## Showing and putting back
 
 pub record ShowPassed (master program : List ℕ) (vs : List Line) : Type 0 where
   pub tree : Transformation

@@ -33,7 +33,7 @@ program-read : (program : List ℕ) (k : ℕ) → 6624 < k → judgedProgram (ta
 unfolding judgedProgram formed longestOf limitOf widestOf
 program-read = enough-read Program judgedProgram (λ s t line e f. rw (e, f))
 
-master-read : (putting : Bool) (master : List ℕ) (k : ℕ) → 9856 < k → judgedMaster putting (take k master) ≡ judgedMaster putting master
+pub master-read : (putting : Bool) (master : List ℕ) (k : ℕ) → 9856 < k → judgedMaster putting (take k master) ≡ judgedMaster putting master
 unfolding judgedMaster formed longestOf limitOf widestOf
 master-read putting = enough-read Master (judgedMaster putting) (λ s t line e f. rw (e, f))
 

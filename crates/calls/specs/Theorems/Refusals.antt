@@ -1,4 +1,4 @@
--- What a call leaves of the two slices lent to it: the output is untouched on every reply but 0, and the work slice is cleared on every reply but 1.
+-- What showing and putting back leave of the two slices lent to them: the output is untouched on every reply but 0, and the work slice is cleared on every reply but 1.
 use mathlib.Core.Path.{_≡_, refl, sym, subst}
 use mathlib.Core.Bool.{true, false}
 use mathlib.Core.List.{List}
@@ -117,7 +117,7 @@ module _ (most : ℕ) (judged : Judged (List Line)) (refusals : Refusing (Refusa
   left : (number place n : ℕ) (out′ work′ : List ℕ) → outcome number place n out′ work′ ≡ called judged out work → Left out work number n out′ work′
   left number place n out′ work′ h = subst Leaves (sym h) leaves
 
--- ## The two calls
+-- ## Showing and putting back
 
 pub show-leaves : (master program out work : List ℕ) (number place n : ℕ) (out′ work′ : List ℕ)
     → outcome number place n out′ work′ ≡ showCall master program out work → Left out work number n out′ work′

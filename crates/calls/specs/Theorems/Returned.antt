@@ -6,10 +6,12 @@ use Prim.Native.Nat.{ℕ, _≤_, _<_}
 use native.Mathlib.Omega.{arith}
 use lib.ListN.{length, take, getD}
 use Rattle.lines.specs.declared.verdict.Verdict.the-variants.{Fine}
-use Rattle.lines.specs.Nodes.{Line, noLine}
+use Rattle.lines.specs.Nodes.{Line, nodes, noLine}
 use Rattle.lines.specs.Masters.{masterBounds}
 use Rattle.lines.specs.Views.{firstDifference}
 use Rattle.lines.specs.Writing.{fileOf}
+use Rattle.lines.specs.Theorems.PutAt.{put-front}
+use Rattle.lines.specs.Theorems.RoundTrip.{nodes-written}
 use Rattle.lines.specs.Theorems.Widths.{file-short}
 use Rattle.lines.specs.Theorems.MasterRules.{bounds-at}
 use Rattle.lines.specs.Theorems.LineRules.{lineRule, Fields, fields-at, all-writable}
@@ -24,6 +26,7 @@ use Rattle.runs.specs.Theorems.OneMaster.{one-covered, length-handedBack, one-h
 use Rattle.runs.specs.Theorems.SameView.{same-formed}
 use Rattle.calls.specs.Judging.{masterRule, judgedMaster, judgedStandings, judgedShow, judgedPutBack}
 use Rattle.calls.specs.Outcomes.{outcome, showCall, putBackCall}
+use Rattle.calls.specs.Demands.{numberOf, written}
 use Rattle.calls.specs.Theorems.Judged.{standings-passed, master-passed, view-passed, put-back-passed, master-passes}
 use Rattle.calls.specs.Theorems.Replies.{Refusing, show-refusing, put-back-refusals, by-outcome, done-lines}
 use Rattle.calls.specs.Theorems.FreshLines.{fields-of}
@@ -81,6 +84,17 @@ unfolding masterRule
 returned-sound master program edited hs h =
     let r = returned-lines master program edited hs h in
     master-passes false hs (r .0) (r .1) (r .2)
+
+-- as the bytes that putting back writes
+pub returned-passes : (master program edited out work : List ℕ) → let r = putBackCall master program edited out work in
+    numberOf r ≡ 0 → judgedMaster false (written r) ≡ gives (nodes (written r))
+unfolding putBackCall
+returned-passes master program edited out work =
+    by-outcome (λ z. numberOf z ≡ 0 → judgedMaster false (written z) ≡ gives (nodes (written z))) (judgedPutBack master program edited) out work
+    (λ _ e. absurd (omega arith))
+    (λ r _ j e. let s = put-back-refusals master program edited r j in absurd (omega arith))
+    (λ hs _ j _.
+    rw (put-front out (fileOf hs), nodes-written hs (returned-lines master program edited hs j .0)) (returned-sound master program edited hs j))
 
 -- and fits the output buffer
 pub put-back-short : (master program edited : List ℕ) (hs : List Line) → judgedPutBack master program edited ≡ gives hs → length (fileOf hs) ≤ 9856

@@ -4,21 +4,21 @@ use mathlib.Core.List.{List}
 use Prim.Native.Nat.{ℕ}
 use Rattle.calls.specs.Outcomes.{Outcome, outcome, showCall, putBackCall}
 
--- number, place, length, output buffer and work slice alike
-pub record Same (number₁ place₁ length₁ : ℕ) (out₁ work₁ : List ℕ) (number₂ place₂ length₂ : ℕ) (out₂ work₂ : List ℕ) : Type 0 where
+-- number, place, length and both slices alike
+pub record Same (number₁ place₁ length₁ : ℕ) (out₁ second₁ : List ℕ) (number₂ place₂ length₂ : ℕ) (out₂ second₂ : List ℕ) : Type 0 where
   pub number : number₁ ≡ number₂
   pub place : place₁ ≡ place₂
   pub length : length₁ ≡ length₂
   pub out : out₁ ≡ out₂
-  pub work : work₁ ≡ work₂
+  pub second : second₁ ≡ second₂
 
 -- two outcomes that meet the same wanted one
-same-outcome : (wanted : Outcome) (number₁ place₁ length₁ : ℕ) (out₁ work₁ : List ℕ) (number₂ place₂ length₂ : ℕ) (out₂ work₂ : List ℕ)
-    → outcome number₁ place₁ length₁ out₁ work₁ ≡ wanted → outcome number₂ place₂ length₂ out₂ work₂ ≡ wanted
-    → Same number₁ place₁ length₁ out₁ work₁ number₂ place₂ length₂ out₂ work₂
-same-outcome wanted number₁ place₁ length₁ out₁ work₁ number₂ place₂ length₂ out₂ work₂ g h =
+pub same-outcome : (wanted : Outcome) (number₁ place₁ length₁ : ℕ) (out₁ second₁ : List ℕ) (number₂ place₂ length₂ : ℕ) (out₂ second₂ : List ℕ)
+    → outcome number₁ place₁ length₁ out₁ second₁ ≡ wanted → outcome number₂ place₂ length₂ out₂ second₂ ≡ wanted
+    → Same number₁ place₁ length₁ out₁ second₁ number₂ place₂ length₂ out₂ second₂
+same-outcome wanted number₁ place₁ length₁ out₁ second₁ number₂ place₂ length₂ out₂ second₂ g h =
     let e = g ∙ sym h in
-    record { number = cc; place = cc; length = cc; out = cc; work = cc }
+    record { number = cc; place = cc; length = cc; out = cc; second = cc }
 
 -- ## The calls
 

@@ -18,7 +18,7 @@ use Rattle.calls.specs.Demands.{FromProgram, OnlyEdits}
 
 -- ## No fault from a line on: none at any place, what stands for a missing one counted
 
-pub none-faulty : {A : Type 0} (fault : A → Bool) (k : ℕ) (xs : List A) (d : A) → fault d ≡ false → firstFrom fault k xs ≡ Fine → (i : ℕ) → fault (getD xs i d) ≡ false
+none-faulty : {A : Type 0} (fault : A → Bool) (k : ℕ) (xs : List A) (d : A) → fault d ≡ false → firstFrom fault k xs ≡ Fine → (i : ℕ) → fault (getD xs i d) ≡ false
 unfolding firstFrom
 none-faulty fault k [] d e h i = e
 none-faulty {A = A} fault k (x ∷ xs) d e h i = go (fault x) refl h (λ q. none-faulty fault (suc k) xs d e q) i
@@ -87,7 +87,7 @@ alike-same e f a =
 
 -- ## 10
 
-pub unmarked-zero : (l : Line) → isMarked l ≡ false → l .mark ≡ untouchedMark
+unmarked-zero : (l : Line) → isMarked l ≡ false → l .mark ≡ untouchedMark
 unfolding isMarked
 unmarked-zero l h = eqb-true (l .mark) untouchedMark (not-false _ h)
 

@@ -7,7 +7,7 @@ use native.Mathlib.Omega.{arith}
 use lib.Dec.{leb, ltb, eqb}
 use lib.ListN.{length, getD}
 use borrow.Author.Tests.{leb-true, le-leb, ltb-true, lt-ltb, eqb-true, eq-eqb}
-use Rattle.lines.specs.Nodes.{Line, changedMark, deletedMark, isElement, isTag, allOf, kindRule, nodeForm, noLine}
+use Rattle.lines.specs.Nodes.{Line, untouchedMark, changedMark, deletedMark, isElement, isTag, allOf, kindRule, nodeForm, noLine}
 use Rattle.lines.specs.Writing.{bytesOf}
 use Rattle.lines.specs.Theorems.Bools.{never, and-left, and-right, and-both}
 use Rattle.lines.specs.Engine.Writes.{Bytes, Writable, AllWritable}
@@ -79,6 +79,17 @@ small-kind kind mark text h = go (eqb kind 1) (eqb kind 2) refl refl h
         let m = leb-true mark deletedMark (and-left (leb mark deletedMark) (isTag text) (and-right (not (eqb mark changedMark)) _ q)) in
         (omega arith, omega arith)
     go false false e f q = never q
+
+-- what a kind asks of the bytes it asks without a mark too
+pub rule-without-mark : (kind mark : ℕ) (text : List ℕ) → kindRule kind mark text ≡ true → kindRule kind untouchedMark text ≡ true
+unfolding kindRule
+rule-without-mark kind mark text h = go (eqb kind 1) (isElement kind) h
+  where
+    go : (a b : Bool) → cond a (leb mark deletedMark) (cond b (not (eqb mark changedMark) && (leb mark deletedMark && isTag text)) false) ≡ true
+        → cond a true (cond b (isTag text) false) ≡ true
+    go true b q = refl
+    go false true q = and-right (leb mark deletedMark) (isTag text) (and-right (not (eqb mark changedMark)) _ q)
+    go false false q = q
 
 pub fields-writable : (l : Line) → Fields l → Writable l
 unfolding bytesOf nodeForm

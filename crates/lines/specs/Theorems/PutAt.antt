@@ -64,6 +64,12 @@ module _ (w new : List ℕ) where
   pub front-behind : drop (length new) (putAt w 0 new) ≡ drop (length new) w
   front-behind = rw zero-add at (put-behind w 0 new (omega arith))
 
+-- a buffer that begins with it and is as before behind
+pub front-is : (before after new : List ℕ) (k : ℕ) → length new ≡ k → take k after ≡ new → drop k after ≡ drop k before → after ≡ putAt before 0 new
+unfolding putAt
+front-is before after new k e begins behind =
+    sym (take-append-drop k after) ∙ (ap₂ (λ (x y : List ℕ). x ++ y) begins behind ∙ ap (λ (m : ℕ). new ++ drop m before) (sym (zero-add (length new) ∙ e)))
+
 -- what stands behind the places that are put over decides
 pub front-same : (v w new : List ℕ) → drop (length new) v ≡ drop (length new) w → putAt v 0 new ≡ putAt w 0 new
 unfolding putAt

@@ -84,7 +84,7 @@ linesBytes : List Line → List (List ℕ)
 linesBytes [] = []
 linesBytes (n ∷ ns) = lineBytes n ∷ linesBytes ns
 
-cut-encode : (b rest : List ℕ) → Bytes b → cut ((encode b ++ (0x0A ∷ [])) ++ rest) ≡ (encode b ++ (0x0A ∷ [])) ∷ cut rest
+pub cut-encode : (b rest : List ℕ) → Bytes b → cut ((encode b ++ (0x0A ∷ [])) ++ rest) ≡ (encode b ++ (0x0A ∷ [])) ∷ cut rest
 unfolding cut encode push
 cut-encode [] rest g = refl
 cut-encode (x ∷ b) rest g =

@@ -1,16 +1,21 @@
--- What keeps a form's contract meets the three demands, as a host reads it.
+-- What keeps a form's contract meets the three demands, or what is asked of a sweep, as a host reads it.
 use mathlib.Core.Path.{_≡_, sym, subst}
+use mathlib.Core.Bool.{true, false}
 use mathlib.Core.List.{List}
 use Prim.Native.Nat.{ℕ}
-use Rattle.lines.specs.Nodes.{nodes}
+use Rattle.lines.specs.Nodes.{Line, nodes}
+use Rattle.runs.specs.Results.{gives}
 use Rattle.runs.specs.Grounds.{oneMaster, view}
-use Rattle.calls.specs.Judging.{judgedShow, judgedPutBack}
+use Rattle.calls.specs.Judging.{judgedMaster, judgedShow, judgedPutBack}
 use Rattle.calls.specs.Outcomes.{showCall}
 use Rattle.calls.specs.Demands.{numberOf, written, RefusesRightly, WritesRightly, Given, Answers, SameLines}
 use Rattle.calls.specs.Theorems.Demand12 as calls
 use Rattle.calls.specs.Theorems.Demand3 as carried
-use Rattle.meadcinder.specs.Forms.{PackedOutcome, ownWork, asRead, ShowsInC, PutsBackInC}
-use Rattle.meadcinder.specs.Demands.{ShowDemand1, PutDemand1, ShowDemand2, PutDemand2, Demand3}
+use Rattle.calls.specs.Sweeping.{enoughForBoth, sweepCall}
+use Rattle.calls.specs.SweepDemands.{SweepRefuses, SweepAnswers}
+use Rattle.calls.specs.Theorems.Sweeping as sweeping
+use Rattle.meadcinder.specs.Forms.{PackedOutcome, ownWork, asRead, ShowsInC, PutsBackInC, bothAsRead, SweepsInC}
+use Rattle.meadcinder.specs.Demands.{ShowDemand1, PutDemand1, ShowDemand2, PutDemand2, Demand3, SweepDemand}
 
 module _ (master program out : List ℕ) (left : PackedOutcome) (shows : ShowsInC master program out left) where
   pub show-demand1 : ShowDemand1 master program out left
@@ -37,4 +42,20 @@ module _ (master program edited out : List ℕ) (left : PackedOutcome) (puts : P
           subst (λ z. SameLines (view (oneMaster (given .lines)) (given .shown .value)) (nodes (written (asRead left))) (nodes (written z))) (sym (s .reads))
               (a .again done out₂ ownWork room),
         );
+      }
+
+module _ (master out numbers : List ℕ) (answer : ℕ) (out′ numbers′ : List ℕ) (swept : SweepsInC master out numbers answer out′ numbers′) where
+  sweep-answers : enoughForBoth out numbers ≡ true → (ls : List Line) → judgedMaster false master ≡ gives ls
+      → SweepAnswers sweepCall master out numbers ls (bothAsRead answer out′ numbers′)
+  sweep-answers room ls judged =
+      subst (SweepAnswers sweepCall master out numbers ls) (sym (swept .reads)) (sweeping.sweep-demand .answers master out numbers room ls judged)
+
+  pub sweep-demand : SweepDemand master out numbers answer out′ numbers′
+  sweep-demand =
+      record {
+        refuses = subst (SweepRefuses master out numbers) (sym (swept .reads)) (sweeping.sweep-demand .refuses master out numbers);
+        answers = sweep-answers;
+        twice = λ room ls judged out₂ numbers₂ room₂ again out₂′ numbers₂′ s.
+            let t = sweep-answers room ls judged .twice out₂ numbers₂ room₂ in
+            subst (λ z. (numberOf z ≡ 0) × (written z ≡ written (bothAsRead answer out′ numbers′))) (sym (s .reads)) (t .0, t .1);
       }

@@ -14,6 +14,7 @@ use Rattle.lines.specs.Entries.{Entry}
 use Rattle.lines.specs.Nodes.{Line}
 use Rattle.lines.specs.Views.{firstDifference, programMark}
 use Rattle.lines.specs.Masters.{masterBounds}
+use Rattle.lines.specs.Theorems.MasterRules.{unmarked-at}
 use Rattle.values.specs.Values.{Origin, master, program, Value, Lookup}
 use Rattle.values.specs.Standings.{Standing, sort, isClash, _⋓_, firstOf, restOf, gathered}
 use Rattle.values.specs.Theorems.MergeLaws.{unit-right}
@@ -29,7 +30,6 @@ use Rattle.runs.specs.Theorems.Grounded.{absent-gathered, fine-no-clash, no-cla
 use Rattle.runs.specs.Theorems.OneMaster.{one-covered, one-line}
 use Rattle.runs.specs.Theorems.FreshView.{one-unmarked}
 use Rattle.runs.specs.Theorems.WholePrograms.{program-placed}
-use Rattle.calls.specs.Theorems.FreshView.{unmarked-at}
 use Rattle.paper.specs.Data.{Sequence, none, fail, got}
 use Rattle.paper.specs.Operators.{Guard}
 use Rattle.paper.specs.Strict.{strictGuard}

@@ -30,6 +30,7 @@ use Rattle.runs.specs.Grounds as grounds
 use Rattle.runs.specs.Grounds.{numberedFrom, linesIn, whole, showing, shownLine, view, brought, standing, standingFor, firstClash, handedBack}
 use Rattle.calls.specs.Judging.{Judged, formed, keeps, isTree, ran, judgedProgram, masterRule, judgedMaster, judgedView, judgedStandings, judgedShow, judgedPutBack}
 use Rattle.calls.specs.Outcomes.{Outcome, outcome, outRoom, workRoom, enough, cleared, settled, called, showCall, putBackCall}
+use Rattle.calls.specs.Sweeping.{numbersRoom, enoughForBoth}
 use Rattle.calls.specs.Demands.{numberOf}
 
 -- ## Bytes, as document 01 prints them: how many pairs a line has, and its pairs as one numeral
@@ -158,6 +159,13 @@ filled n = le-leb n (length {A = ℕ} (replicate n 0)) (omega (arith, length-rep
 pub roomy : enough roomyOut roomyWork ≡ true
 unfolding enough roomyOut roomyWork
 roomy = and-both _ _ (filled outRoom) (filled workRoom)
+
+pub roomyNumbers : List ℕ
+roomyNumbers = replicate numbersRoom 0
+
+pub roomyBoth : enoughForBoth roomyOut roomyNumbers ≡ true
+unfolding enoughForBoth roomyOut roomyNumbers
+roomyBoth = and-both _ _ (filled outRoom) (filled numbersRoom)
 
 -- the number that a call answers with them is the computed one
 pub roomy-number : (c : Call) → numberOf (outcomeOf c roomyOut roomyWork) ≡ (answer c) .0

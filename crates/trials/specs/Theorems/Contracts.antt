@@ -1,20 +1,26 @@
 -- Our contracts, as predicates over any calls; and that calls which meet them meet the demands, so that one which fails a demand has not our contract.
 use Prim.Native.Nat.{ℕ}
-use mathlib.Core.Path.{_≡_, refl}
+use mathlib.Core.Path.{_≡_, refl, sym, subst}
 use mathlib.Core.List.{List}
 use Rattle.calls.specs.Outcomes.{Outcome, showCall, putBackCall}
 use Rattle.calls.specs.Demands.{ShowLike, PutLike, written, ShowDemand1, PutDemand1}
 use Rattle.calls.specs.Demands.{ShowDemand2, PutDemand2, Given, Answers, Demand3}
+use Rattle.calls.specs.Sweeping.{sweepCall}
+use Rattle.calls.specs.SweepDemands.{SweepLike, SweepDemand}
 use Rattle.calls.specs.Theorems.Demand12.{show-demand1, put-demand1, show-demand2, put-demand2}
 use Rattle.calls.specs.Theorems.Demand3.{demand3}
+use Rattle.calls.specs.Theorems.Sweeping.{sweep-demand}
 
--- ## The contracts of `show::show` and `put_back::put_back`: for whatever is lent, the outcome is the one that Outcomes gives
+-- ## The contracts of `show::show`, `put_back::put_back` and `sweep::sweep`: for whatever is lent, the outcome is the one that Outcomes, or Sweeping, gives
 
 abbrev pub MeetsShow : ShowLike → Type 0
 MeetsShow show = (master program out work : List ℕ) → show master program out work ≡ showCall master program out work
 
 abbrev pub MeetsPutBack : PutLike → Type 0
 MeetsPutBack put = (master program edited out work : List ℕ) → put master program edited out work ≡ putBackCall master program edited out work
+
+abbrev pub MeetsSweep : SweepLike → Type 0
+MeetsSweep sweep = (master out numbers : List ℕ) → sweep master out numbers ≡ sweepCall master out numbers
 
 -- ## What meets our contracts meets the demands: they ask nothing of a call but its outcomes
 
@@ -46,10 +52,16 @@ meets-demand3 show put meets-show meets-put master program edited out work given
     rw (meets-put master program edited out work)
     (answers-alike show meets-show master program edited out work given (putBackCall master program edited out work) (demand3 master program edited out work given))
 
+pub meets-sweep-demand : (sweep : SweepLike) → MeetsSweep sweep → SweepDemand sweep
+meets-sweep-demand sweep meets = subst SweepDemand (λ i master out numbers. sym (meets master out numbers) i) sweep-demand
+
 -- ## What fails a demand does not meet our contract
 
 pub fails-show-demand2 : (show : ShowLike) → (ShowDemand2 show → ⊥) → MeetsShow show → ⊥
 fails-show-demand2 show fails meets = fails (meets-show-demand2 show meets)
+
+pub fails-sweep-demand : (sweep : SweepLike) → (SweepDemand sweep → ⊥) → MeetsSweep sweep → ⊥
+fails-sweep-demand sweep fails meets = fails (meets-sweep-demand sweep meets)
 
 -- whatever it is shown by
 pub fails-demand3 : (put : PutLike) → ((show : ShowLike) → Demand3 show put → ⊥) → MeetsPutBack put → ⊥

@@ -1,4 +1,4 @@
--- What both calls judge first, then the view beside the fresh one.
+-- What showing and putting back judge first, then the view beside the fresh one.
 use Prim.Native.Nat.{ℕ}
 use native.Mathlib.Omega.{arith}
 use mathlib.Core.Bool.{true}

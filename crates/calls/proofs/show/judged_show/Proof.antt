@@ -1,4 +1,4 @@
--- What both calls judge first, then the lines of what is shown.
+-- What showing and putting back judge first, then the lines of what is shown.
 use Prim.Native.Nat.{ℕ}
 use native.Mathlib.Omega.{arith}
 use mathlib.Core.Bool.{false}
