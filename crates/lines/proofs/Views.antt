@@ -1,44 +1,53 @@
 -- Steps of the comparisons: of two texts, and of a view's lines with the fresh ones.
-use mathlib.Core.Path.{_≡_, refl, ap}
+use mathlib.Core.Path.{_≡_, refl, sym, ap, _∙_}
 use mathlib.Core.Bool.{Bool, true, false, _&&_}
 use mathlib.Core.List.{List, [], _∷_}
-use Prim.Native.Nat.{ℕ, _+_, _≤_, _<_}
+use Prim.Native.Nat.{ℕ, _+_, _-_, _≤_, _<_}
 use native.Mathlib.Numerals.{add-one}
+use native.Mathlib.Omega.{arith}
 use lib.Dec.{eqb}
 use lib.ListN.{length, getD, drop, drop-of-length-le}
-use borrow.Author.Tests.{eq-eqb, ne-eqb}
+use borrow.Author.Tests.{eq-eqb, ne-eqb, eqb-true}
 use Rattle.lines.specs.declared.verdict.Verdict.the-variants.{Fine, Fault}
 use Rattle.lines.specs.Nodes.{Line}
 use Rattle.lines.specs.Texts.{sameText}
 use Rattle.lines.specs.Views.{sameHead, sameLine, differenceFrom}
 use Rattle.lines.specs.Theorems.Lists.{drop-one}
 
--- texts from byte j on: one byte more, and none
-module _ (a b : List ℕ) (j : ℕ) where
-  step : j < length a → j < length b → sameText (drop j a) (drop j b) ≡ (eqb (getD a j 0) (getD b j 0) && sameText (drop (j + 1) a) (drop (j + 1) b))
-  unfolding sameText
-  step h k = rw (drop-one a j 0 h, drop-one b j 0 k)
-
-  pub text-differs : j < length a → j < length b → (getD a j 0 ≡ getD b j 0 → ⊥) → sameText (drop j a) (drop j b) ≡ false
-  text-differs h k e = rw (step h k, ne-eqb (getD a j 0) (getD b j 0) e)
-
-  pub text-goes-on : j < length a → j < length b → getD a j 0 ≡ getD b j 0 → sameText (drop j a) (drop j b) ≡ sameText (drop (j + 1) a) (drop (j + 1) b)
-  text-goes-on h k e = rw (step h k, eq-eqb (getD a j 0) (getD b j 0) e)
-
-  pub text-ends : length a ≤ j → length b ≤ j → sameText (drop j a) (drop j b) ≡ true
-  unfolding sameText
-  text-ends h k = rw (drop-of-length-le a h, drop-of-length-le b k)
-
-pub text-lengths : (a b : List ℕ) → (length a ≡ length b → ⊥) → sameText a b ≡ false
+-- two texts are not the same if what is read off them differs: their lengths, or their bytes at one place
+reading-differs : (read : List ℕ → ℕ) (a b : List ℕ) {m n : ℕ} → m ≡ read a → n ≡ read b → (m ≡ n → ⊥) → sameText a b ≡ false
 unfolding sameText
-text-lengths [] [] h = absurd (h refl)
-text-lengths [] (y ∷ b) h = refl
-text-lengths (x ∷ a) [] h = refl
-text-lengths (x ∷ a) (y ∷ b) h = go (eqb x y) (text-lengths a b (λ e. h (ap Prim.Native.Nat.suc e)))
+reading-differs read [] [] p q h = absurd (h (p ∙ sym q))
+reading-differs read [] (y ∷ b) p q h = refl
+reading-differs read (x ∷ a) [] p q h = refl
+reading-differs read (x ∷ a) (y ∷ b) p q h =
+    go (eqb x y) refl (λ e. reading-differs (λ (s : List ℕ). read (x ∷ s)) a b p (q ∙ ap (λ (z : ℕ). read (z ∷ b)) (sym e)) h)
   where
-    go : (t : Bool) → sameText a b ≡ false → (t && sameText a b) ≡ false
-    go true e = e
-    go false e = refl
+    go : (t : Bool) → eqb x y ≡ t → (x ≡ y → sameText a b ≡ false) → (t && sameText a b) ≡ false
+    go true e rest = rest (eqb-true x y e)
+    go false e rest = refl
+
+pub length-differs : (a b : List ℕ) {m n : ℕ} → m ≡ length a → n ≡ length b → (m ≡ n → ⊥) → sameText a b ≡ false
+length-differs = reading-differs length
+
+pub byte-differs : (a b : List ℕ) (j : ℕ) {m n : ℕ} → m ≡ getD a j 0 → n ≡ getD b j 0 → (m ≡ n → ⊥) → sameText a b ≡ false
+byte-differs a b j = reading-differs (λ (t : List ℕ). getD t j 0) a b
+
+-- texts that are the same from byte j on: at their end, one byte further to the front, and from the first byte on
+module _ (a b : List ℕ) (j : ℕ) where
+  pub text-ends : j ≡ length a → j ≡ length b → sameText (drop j a) (drop j b) ≡ true
+  unfolding sameText
+  text-ends h k = let p : length a ≤ j = omega arith in let q : length b ≤ j = omega arith in rw (drop-of-length-le a p, drop-of-length-le b q)
+
+  pub text-goes-back : {m n : ℕ} → 0 < j → j ≤ length a → j ≤ length b → m ≡ getD a (j - 1) 0 → n ≡ getD b (j - 1) 0 → m ≡ n
+      → sameText (drop j a) (drop j b) ≡ true → sameText (drop (j - 1) a) (drop (j - 1) b) ≡ true
+  unfolding sameText
+  text-goes-back s h k p q e t =
+      let z : j - 1 + 1 ≡ j = omega arith in
+      rw (drop-one a (j - 1) 0 (omega arith), drop-one b (j - 1) 0 (omega arith), z, eq-eqb _ _ (sym p ∙ (e ∙ q))) t
+
+  pub text-whole : j ≤ 0 → sameText (drop j a) (drop j b) ≡ true → sameText a b ≡ true
+  text-whole h t = let z : j ≡ 0 = omega arith in rw z at t
 
 -- one line: what decides it
 module _ (v f : Line) where

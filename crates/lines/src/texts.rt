@@ -21,7 +21,7 @@ pub fn text_byte(s: &[u8], at: u32, j: u8) -> u8
     pair_at(s, at as usize + 2 + 2 * j as usize)
 }
 
-// Byte for byte.
+// Byte for byte: the lengths first, then from the last byte to the first, since names often begin alike and differ at the tail.
 pub fn same_text(a: &[u8], at_a: u32, b: &[u8], at_b: u32) -> bool
     ensures { λ r. ⌜ r ≡ sameText (textAt (now (a .entry)) «at_a») (textAt (now (b .entry)) «at_b») ⌝ }
 {
@@ -29,12 +29,12 @@ pub fn same_text(a: &[u8], at_a: u32, b: &[u8], at_b: u32) -> bool
     if n != text_len(b, at_b) {
         return false;
     }
-    let mut j: u8 = 0;
-    while j < n {
+    let mut j = n;
+    while 0 < j {
+        j -= 1;
         if text_byte(a, at_a, j) != text_byte(b, at_b, j) {
             return false;
         }
-        j += 1;
     }
     true
 }

@@ -24,7 +24,7 @@ fn same_head(view: &[u8], v: u16, fresh: &[u8], f: u16) -> bool
     number_at(view, v) == number_at(fresh, f)
 }
 
-// The first line at which the view differs from the fresh one; given up inside a line's bytes at the first difference.
+// The first line at which the view differs from the fresh one; given up inside a line's bytes at the first difference. The bytes are looked at in the order of `same_text`.
 pub fn difference(view: &[u8], vs: &[u16], fresh: &[u8], fs: &[u16]) -> Verdict
     ensures { λ r. ⌜ r ≡ firstDifference (linesOf (now (view .entry)) (now (vs .entry))) (linesOf (now (fresh .entry)) (now (fs .entry))) ⌝ }
 {
@@ -51,12 +51,12 @@ pub fn difference(view: &[u8], vs: &[u16], fresh: &[u8], fs: &[u16]) -> Verdict
             if n != text_len(fresh, b) {
                 break 'lines Verdict::Fault(i);
             }
-            let mut j: u8 = 0;
-            while j < n {
+            let mut j = n;
+            while 0 < j {
+                j -= 1;
                 if text_byte(view, a, j) != text_byte(fresh, b, j) {
                     break 'lines Verdict::Fault(i);
                 }
-                j += 1;
             }
         }
         i += 1;

@@ -1,4 +1,4 @@
--- The first difference from line `i` on is the first of all; a text's bytes from `j` on are the same as the whole texts are.
+-- The first difference from line `i` on is the first of all; two texts are the same from byte `j` on.
 use mathlib.Core.Path.{_≡_, refl, sym, _∙_}
 use mathlib.Core.Bool.{true, false}
 use mathlib.Core.Logic.{⊎-elim}
@@ -11,16 +11,16 @@ use Rattle.lines.specs.Texts.{sameText}
 use Rattle.lines.specs.Views.{sameLine, differenceFrom, firstDifference}
 use Rattle.lines.specs.Theorems.LinesAt.{nodes-none, nodes-one, text-at}
 use Rattle.lines.specs.Engine.Starts.{nodeAt, linesOf, textAt}
-use Rattle.lines.proofs.Views.{text-differs, text-goes-on, text-ends, text-lengths, line-head, line-changed, line-text, no-difference, view-short}
+use Rattle.lines.proofs.Views.{length-differs, byte-differs, text-ends, text-goes-back, text-whole, line-head, line-changed, line-text, no-difference, view-short}
 use Rattle.lines.proofs.Views.{view-long, difference-here, difference-later}
 use Rattle.lines.proofs.view.difference.Statement.{statement}
 use Rattle.lines.proofs.view.difference.Tie as tie
 
 abbrev Inv-loop : tie.InvT-loop
-Inv-loop view vs fresh fs i v f a b n j₀ j = (j ≤ n) × (sameText (drop j (textAt view a)) (drop j (textAt fresh b)) ≡ sameText (textAt view a) (textAt fresh b))
+Inv-loop view vs fresh fs i v f a b n j₀ j = (j ≤ n) × (sameText (drop j (textAt view a)) (drop j (textAt fresh b)) ≡ true)
 
 abbrev μ-loop : tie.MeasureT-loop
-μ-loop view vs fresh fs i v f a b n j₀ j = n - j
+μ-loop view vs fresh fs i v f a b n j₀ j = j
 
 abbrev Inv-lines : tie.InvT-lines
 Inv-lines view vs fresh fs i₀ i =
@@ -39,14 +39,14 @@ unfolding firstDifference
 lines-holds c = (omega arith, omega arith, refl)
 
 loop-holds : tie.Need-loop-holds Inv-loop μ-loop Inv-lines μ-lines
-loop-holds c = (omega arith, refl)
+loop-holds c = (omega arith, text-ends _ _ _ (c .before .before .text-len .ensures) (c .if6 .left ∙ c .before .text-len2 .ensures))
 
 loop-again : tie.Need-loop-again Inv-loop μ-loop Inv-lines μ-lines
 loop-again c =
     let at-loop = c .before .before .before .before in (
       omega arith,
-      sym (text-goes-on _ _ (at-loop .loop .j) (omega arith) (omega arith)
-          (sym (c .before .before .text-byte .ensures) ∙ (c .if7 .left ∙ c .before .text-byte2 .ensures))) ∙ at-loop .loop .inv .1,
+      text-goes-back _ _ (at-loop .loop .j) (omega arith) (omega arith) (omega arith) (c .before .before .text-byte .ensures) (c .before .text-byte2 .ensures)
+          (c .if7 .left) (at-loop .loop .inv .1),
     )
 
 lines-again : tie.Need-lines-again Inv-loop μ-loop Inv-lines μ-lines
@@ -61,9 +61,7 @@ lines-again c =
     let fs = nodes-one (nodeAt (a .fresh .now)) (a .fs .now) i (omega arith) in
     let head = sym (after-mark-at .before .before .same-head .ensures) ∙ not-false _ (after-mark-at .before .if4 .left) in
     let same : sameLine v f ≡ true = ⊎-elim (λ w. let x = text-at (a .view .now) _ (w .1 .ensures) in let y = text-at (a .fresh .now) _ (w .2 .ensures) in
-    let ends = text-ends _ _ (w .6 .j) (omega (arith, w .3 .ensures, w .7 .left))
-    (omega (arith, w .3 .ensures, w .4 .ensures, w .5 .left, w .7 .left)) in line-text v f head
-    (λ e. w .0 .taken (after-mark-at .mark-at .ensures ∙ e)) ∙ rw (← x, ← y) (sym (w .6 .inv .1) ∙ ends))
+    line-text v f head (λ e. w .0 .taken (after-mark-at .mark-at .ensures ∙ e)) ∙ rw (← x, ← y) (text-whole _ _ (w .6 .j) (w .7 .left) (w .6 .inv .1)))
     (λ w. line-changed v f head (sym (after-mark-at .mark-at .ensures) ∙ w .left)) (c .if5 .came) in
     (omega arith, omega arith, sym (rw (vs, fs) (difference-later i v f _ _ same)) ∙ at-lines .lines .inv .2)
 
@@ -117,7 +115,7 @@ returns-5 c =
     let x = text-at (a .view .now) _ (after-node-text .node-text .ensures) in
     let y = text-at (a .fresh .now) _ (after-node-text2 .node-text2 .ensures) in
     let differs : sameText (v .text) (f .text) ≡ false = rw (← x, ← y)
-    (text-lengths _ _ (λ e. c .if6 .taken (c .before .before .text-len .ensures ∙ (e ∙ sym (c .before .text-len2 .ensures))))) in
+    (length-differs _ _ (c .before .before .text-len .ensures) (c .before .text-len2 .ensures) (c .if6 .taken)) in
     sym (rw (vs, fs) (difference-here i v f _ _ (line-text v f head plain ∙ differs))) ∙ at-lines .lines .inv .2
 
 returns-6 : tie.Need-returns-6 Inv-loop μ-loop Inv-lines μ-lines
@@ -138,13 +136,12 @@ returns-6 c =
     let x = text-at (a .view .now) _ (after-node-text .node-text .ensures) in
     let y = text-at (a .fresh .now) _ (after-node-text2 .node-text2 .ensures) in
     let differs : sameText (v .text) (f .text) ≡ false = rw (← x, ← y)
-    (sym (at-loop .loop .inv .1) ∙ text-differs _ _ (at-loop .loop .j) (omega arith) (omega arith)
-    (λ e. c .if7 .taken (c .before .before .text-byte .ensures ∙ (e ∙ sym (c .before .text-byte2 .ensures))))) in
+    (byte-differs _ _ _ (c .before .before .text-byte .ensures) (c .before .text-byte2 .ensures) (c .if7 .taken)) in
     sym (rw (vs, fs) (difference-here i v f _ _ (line-text v f head plain ∙ differs))) ∙ at-lines .lines .inv .2
 
 pub difference-spec : {M : Type 1} → statement M
 difference-spec =
     tie.close (tie.spec Inv-loop μ-loop Inv-lines μ-lines lines-holds (λ c. search needs) (λ c. search needs) (λ c. search needs) (λ c. search needs)
     (λ c κs. search needs) (λ c κs. search needs) (λ c κs. search needs) (λ c κs. search needs) (λ c κs. search needs) (λ c κs. search needs)
-    loop-holds (λ c κs. search needs) (λ c κs. search needs) (λ c. search needs) (λ c. search needs) loop-again (λ c. search needs)
+    loop-holds (λ c. search needs) (λ c κs. search needs) (λ c κs. search needs) (λ c. search needs) loop-again (λ c. search needs)
     (λ c. search needs) lines-again returns returns-2 returns-3 returns-4 returns-5 returns-6)
