@@ -63,8 +63,9 @@ meadcinder_answer meadcinder_show(const unsigned char *master, meadcinder_size m
                                   const unsigned char *program, meadcinder_size program_length,
                                   unsigned char *output, meadcinder_size output_room);
 
-/* Writes the master with the edits of the view, which is that of meadcinder_show with lines changed or deleted.
-   Gives the numbers 0 to 11. */
+/* Writes the master with the edits of the view, which is that of meadcinder_show with lines changed or deleted. A text
+   marked 01 (changed) that is still the one shown counts as untouched; MEADCINDER_PROGRAM_LINE_MARKED looks at the mark
+   as it is written. Gives the numbers 0 to 11. */
 meadcinder_answer meadcinder_put_back(const unsigned char *master, meadcinder_size master_length,
                                       const unsigned char *program, meadcinder_size program_length,
                                       const unsigned char *view, meadcinder_size view_length,

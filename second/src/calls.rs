@@ -7,12 +7,13 @@ use crate::node_line::{self, Mark, NodeLine};
 use crate::program::{self, Transformation};
 use crate::putting_back::PuttingBack;
 use crate::rules::{self, ClashPlace, MarkedMaster, Rules, Stage};
+use crate::saved;
 use crate::showing::{Cause, Showing, Stop};
 use crate::standing::Standing;
 use crate::stream::{Call, Case};
 use crate::sweeping;
 use crate::tree::{self, Value};
-use crate::view;
+use crate::view::{self, Sides};
 use std::collections::BTreeSet;
 
 #[derive(Clone, Debug, PartialEq, Eq)]
@@ -96,7 +97,7 @@ pub struct Desk<'a> {
     pub fresh: Vec<NodeLine>,
     pub compared: BTreeSet<u16>,
     pub view: Vec<NodeLine>,
-    returned: Vec<NodeLine>,
+    pub returned: Vec<NodeLine>,
 }
 
 impl<'a> Desk<'a> {
@@ -128,7 +129,9 @@ impl<'a> Desk<'a> {
             Stage::ViewComparison => {
                 refuse(9, view::first_difference(&self.fresh, &self.view, &self.rules.judging))
             }
-            Stage::ProgramMarks => refuse(10, view::first_marked_program_line(&self.view)),
+            Stage::ProgramMarks => {
+                refuse(10, view::first_marked_program_line(self.sides(), self.rules))
+            }
             Stage::Clash => self.put_back(),
         }
     }
@@ -196,14 +199,19 @@ impl<'a> Desk<'a> {
         Ok(())
     }
 
+    fn sides(&self) -> Sides<'_> {
+        Sides { master: &self.master, fresh: &self.fresh, view: &self.view }
+    }
+
     fn put_back(&mut self) -> Result<(), Reply> {
         let rules = self.rules;
         let shown = std::mem::take(&mut self.shown);
-        let edits = view::with_standings(shown, &self.fresh, &self.view, &rules.putting_back);
+        let edits = view::with_standings(shown, self.sides(), rules);
         let source = tree::from_lines(&self.master);
         let handed_back =
             PuttingBack::new(rules).put_back(self.program(), &source, edits).map_err(stopped)?;
-        let standings = standings_by_number(handed_back, self.master.len());
+        let mut standings = standings_by_number(handed_back, self.master.len());
+        saved::affect(&mut standings, self.sides(), &rules.saving);
         refuse(11, clash(&standings, rules.judging.clash_place))?;
         self.returned = returned_master(&self.master, &standings, &rules.putting_back);
         Ok(())

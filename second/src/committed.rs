@@ -1,8 +1,8 @@
 //! The committed cases: the bench examples, then seeded cases of show and put back, then the edges
-//! of sweeping, then seeded sweeps. The product's `replay` answers them from a file, which is made
-//! from here.
+//! of sweeping, then seeded sweeps, then the edges of saved lines, then seeded views with many of
+//! them. The product's `replay` answers them from a file, which is made from here.
 
-use crate::cases::{self, bench, sweep_edges, sweeps};
+use crate::cases::{self, bench, saved_edges, saves, sweep_edges, sweeps};
 use crate::stream::Case;
 
 pub const SEED: u64 = 20_071;
@@ -13,9 +13,12 @@ pub const COUNT: usize = 4_000;
 /// How many sweeps are seeded.
 pub const SWEEPS: usize = 500;
 
+/// How many put backs of views with many saved lines are seeded.
+pub const SAVES: usize = 500;
+
 pub fn cases() -> Vec<Case> {
     let examples = bench::examples().into_iter().map(|example| example.case);
-    examples.chain(seeded()).chain(sweeps()).collect()
+    examples.chain(seeded()).chain(sweeps()).chain(saves()).collect()
 }
 
 pub fn seeded() -> Vec<Case> {
@@ -29,4 +32,13 @@ pub fn sweeps() -> Vec<Case> {
 
 pub fn seeded_sweeps() -> Vec<Case> {
     sweeps::cases(SEED, SWEEPS)
+}
+
+pub fn saves() -> Vec<Case> {
+    let edges = saved_edges::edges().into_iter().map(|edge| edge.case);
+    edges.chain(seeded_saves()).collect()
+}
+
+pub fn seeded_saves() -> Vec<Case> {
+    saves::cases(SEED, SAVES)
 }

@@ -1,5 +1,5 @@
-//! Demand 3 by brute force: the edits are gathered line by line, by number, from the fresh view
-//! and the numbers compared while it was made. Nothing of putting back is used here.
+//! Demand 3 by brute force: the edits are gathered line by line, by number, from the view beside
+//! the fresh one and the numbers compared while that was made. Nothing of putting back is used here.
 
 use crate::calls::{self, Desk, Reply};
 use crate::node_line::{self, FROM_PROGRAM, Mark, NodeLine};
@@ -30,27 +30,29 @@ pub fn check(case: &Case, rules: &Rules) -> Verdict {
         return Verdict::DoesNotApply;
     }
     let reply = calls::answer(case, rules);
-    let holds = match least_unacceptable(&edits_by_node(&desk.view), &desk.compared) {
+    let edits = edits_by_node(&desk);
+    let holds = match least_unacceptable(&edits, &desk.compared) {
         Some(number) => reply == Reply::refusal(11, usize::from(number)),
-        None => accepted_as_demanded(case, &desk, &reply, rules),
+        None => accepted_as_demanded(case, &desk, &edits, &reply, rules),
     };
     Verdict::of(holds)
 }
 
-/// The edited lines of each master node: the marked ones.
-fn edits_by_node(view: &[NodeLine]) -> BTreeMap<u16, Vec<&NodeLine>> {
-    let mut edits: BTreeMap<u16, Vec<&NodeLine>> = BTreeMap::new();
-    for line in view.iter().filter(|line| line.mark != Mark::Untouched) {
-        edits.entry(line.number).or_default().push(line);
+type Edits<'a> = BTreeMap<u16, Vec<&'a NodeLine>>;
+
+/// The edited lines of each master node: the deleted ones and those with a new text.
+fn edits_by_node<'a>(desk: &'a Desk) -> Edits<'a> {
+    let mut edits = Edits::new();
+    for (fresh, line) in desk.fresh.iter().zip(&desk.view) {
+        if line.mark == Mark::Deleted || line.bytes != fresh.bytes {
+            edits.entry(line.number).or_default().push(line);
+        }
     }
     edits
 }
 
 /// The least edited node that was compared or whose edited lines carry different edits.
-fn least_unacceptable(
-    edits: &BTreeMap<u16, Vec<&NodeLine>>,
-    compared: &BTreeSet<u16>,
-) -> Option<u16> {
+fn least_unacceptable(edits: &Edits, compared: &BTreeSet<u16>) -> Option<u16> {
     edits
         .iter()
         .find(|(number, lines)| {
@@ -61,19 +63,30 @@ fn least_unacceptable(
         .map(|(number, _)| *number)
 }
 
-fn accepted_as_demanded(case: &Case, desk: &Desk, reply: &Reply, rules: &Rules) -> bool {
-    let demanded = edited_master(&desk.master, &edits_by_node(&desk.view));
+fn accepted_as_demanded(
+    case: &Case,
+    desk: &Desk,
+    edits: &Edits,
+    reply: &Reply,
+    rules: &Rules,
+) -> bool {
+    let demanded = edited_master(&desk.master, edits);
     let accepted = Reply::done(node_line::write_file(&demanded));
     *reply == accepted && shows_the_same_lines(case, desk, &demanded, reply, rules)
 }
 
-/// Each node has the edit of its lines, every other node is unchanged.
-fn edited_master(master: &[NodeLine], edits: &BTreeMap<u16, Vec<&NodeLine>>) -> Vec<NodeLine> {
+/// Each node has the edit of its edited lines; one that has none is handed back with its old text
+/// and mark 00, even if a line of it had 01.
+fn edited_master(master: &[NodeLine], edits: &Edits) -> Vec<NodeLine> {
     let mut edited = master.to_vec();
-    for (number, lines) in edits {
-        let node = &mut edited[usize::from(*number)];
-        node.mark = lines[0].mark;
-        node.bytes = lines[0].bytes.clone();
+    for (node, number) in edited.iter_mut().zip(0..) {
+        match edits.get(&number) {
+            Some(lines) => {
+                node.mark = lines[0].mark;
+                node.bytes = lines[0].bytes.clone();
+            }
+            None => node.mark = Mark::Untouched,
+        }
     }
     edited
 }

@@ -1,5 +1,5 @@
-//! The independent second program: document 01 and request #103 over trees that own their texts
-//! and standings.
+//! The independent second program: document 01 and requests #101 and #103 over trees that own their
+//! texts and standings.
 
 pub mod calls;
 pub mod cases;
@@ -14,6 +14,7 @@ pub mod program;
 pub mod putting_back;
 pub mod replay;
 pub mod rules;
+pub mod saved;
 pub mod showing;
 pub mod standing;
 pub mod stream;

@@ -1,5 +1,6 @@
-//! What document 01 and request #103 fix, as values. `Rules::document()` is what they say; the tests
-//! change one value at a time to see that the committed cases tell each wrong reading apart.
+//! What document 01 and requests #101 and #103 fix, as values. `Rules::document()` is what they
+//! say; the tests change one value at a time to see that the committed cases tell each wrong reading
+//! apart.
 
 #[derive(Clone, Debug)]
 pub struct Rules {
@@ -8,6 +9,7 @@ pub struct Rules {
     pub bounds: Bounds,
     pub showing: Showing,
     pub putting_back: PuttingBack,
+    pub saving: Saving,
     pub sweeping: Sweeping,
     pub judging: Judging,
 }
@@ -72,7 +74,6 @@ pub struct PuttingBack {
     pub beside_keeps_both: bool,
     pub both_branches_keep_edits: bool,
     pub within_takes_the_mark: bool,
-    pub old_text_is_a_change: bool,
     pub deletion_spreads: bool,
     pub deleted_keep_their_contents: bool,
 }
@@ -102,6 +103,59 @@ pub enum EditsGoBy {
     Number,
     Place,
     Text,
+}
+
+/// Which view lines were saved without touching, and what they do.
+#[derive(Clone, Debug)]
+pub struct Saving {
+    pub marks: SavedMarks,
+    pub old_text: OldText,
+    pub comparison: Comparison,
+    pub effect: SavedEffect,
+}
+
+/// The marks that do not count on a line with the old text.
+#[derive(Clone, Copy, Debug, PartialEq, Eq)]
+pub enum SavedMarks {
+    Changed,
+    Deleted,
+    ChangedAndDeleted,
+    None,
+}
+
+/// What a line's text is compared with.
+#[derive(Clone, Copy, Debug, PartialEq, Eq)]
+pub enum OldText {
+    FreshLine,
+    LineItself,
+    AnyFreshLine,
+    FreshLineAtItsNumber,
+    MasterLineAtItsPlace,
+}
+
+/// When a text is the old one.
+#[derive(Clone, Copy, Debug, PartialEq, Eq)]
+pub enum Comparison {
+    ByteForByte,
+    Lengths,
+    BeforeSpacesBehind,
+    UpToTheShorter,
+    BeforeByte00,
+    BehindTheFirstByte,
+    BeforeTheLastByte,
+    NeverOfEmpty,
+    NeverOf32Bytes,
+    InEitherCase,
+}
+
+/// What a saved line does to the standing of its node.
+#[derive(Clone, Copy, Debug, PartialEq, Eq)]
+pub enum SavedEffect {
+    None,
+    MarksTheNode,
+    ClashesWithLock,
+    ClashesWithDeletion,
+    UndoesTheEdit,
 }
 
 #[derive(Clone, Debug)]
@@ -150,6 +204,7 @@ pub struct Judging {
     pub count_place: CountPlace,
     pub numbers_are_compared: bool,
     pub deleted_bytes_are_compared: bool,
+    pub program_marks_are_read_as_written: bool,
     pub clash_place: ClashPlace,
 }
 
@@ -195,6 +250,7 @@ impl Rules {
             bounds: Bounds::document(),
             showing: Showing::document(),
             putting_back: PuttingBack::document(),
+            saving: Saving::document(),
             sweeping: Sweeping::document(),
             judging: Judging::document(),
         }
@@ -261,9 +317,19 @@ impl PuttingBack {
             beside_keeps_both: true,
             both_branches_keep_edits: true,
             within_takes_the_mark: true,
-            old_text_is_a_change: true,
             deletion_spreads: false,
             deleted_keep_their_contents: true,
+        }
+    }
+}
+
+impl Saving {
+    fn document() -> Saving {
+        Saving {
+            marks: SavedMarks::Changed,
+            old_text: OldText::FreshLine,
+            comparison: Comparison::ByteForByte,
+            effect: SavedEffect::None,
         }
     }
 }
@@ -302,6 +368,7 @@ impl Judging {
             count_place: CountPlace::Shorter,
             numbers_are_compared: true,
             deleted_bytes_are_compared: true,
+            program_marks_are_read_as_written: true,
             clash_place: ClashPlace::Least,
         }
     }

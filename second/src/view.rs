@@ -1,10 +1,19 @@
 //! The view beside the fresh one: replies 9 and 10, and the standings its lines bring.
 
 use crate::node_line::{FROM_PROGRAM, Mark, NodeLine};
-use crate::rules::{CountPlace, EditsGoBy, Judging, PuttingBack};
+use crate::rules::{CountPlace, EditsGoBy, Judging, Rules, Saving};
+use crate::saved;
 use crate::standing::Standing;
 use crate::text;
 use crate::tree::{self, Value};
+
+/// A view, the fresh one, and the master that both come from.
+#[derive(Clone, Copy)]
+pub struct Sides<'a> {
+    pub master: &'a [NodeLine],
+    pub fresh: &'a [NodeLine],
+    pub view: &'a [NodeLine],
+}
 
 /// The place of reply 9, if the views differ where they may not.
 pub fn first_difference(fresh: &[NodeLine], view: &[NodeLine], rules: &Judging) -> Option<usize> {
@@ -31,34 +40,31 @@ fn differs(fresh: &NodeLine, line: &NodeLine, rules: &Judging) -> bool {
         || (!bytes_may_differ && !text::equal(&fresh.bytes, &line.bytes))
 }
 
-/// The place of reply 10: the first line from the program that has a mark.
-pub fn first_marked_program_line(view: &[NodeLine]) -> Option<usize> {
-    view.iter().position(|line| line.number == FROM_PROGRAM && line.mark != Mark::Untouched)
+/// The place of reply 10: the first line from the program that has a mark, as it is written.
+pub fn first_marked_program_line(sides: Sides, rules: &Rules) -> Option<usize> {
+    let mark = |place: usize| match rules.judging.program_marks_are_read_as_written {
+        true => sides.view[place].mark,
+        false => saved::mark_that_counts(place, sides, &rules.saving),
+    };
+    let is_from_program = |&place: &usize| sides.view[place].number == FROM_PROGRAM;
+    (0..sides.view.len()).filter(is_from_program).find(|&place| mark(place) != Mark::Untouched)
 }
 
 /// What a view line brings.
-pub fn brings(fresh: &NodeLine, line: &NodeLine, rules: &PuttingBack) -> Standing {
-    match line.mark {
+fn brings(place: usize, sides: Sides, rules: &Saving) -> Standing {
+    match saved::mark_that_counts(place, sides, rules) {
         Mark::Untouched => Standing::Untouched,
-        Mark::Changed if !rules.old_text_is_a_change && text::equal(&fresh.bytes, &line.bytes) => {
-            Standing::Untouched
-        }
-        Mark::Changed => Standing::Changed(line.bytes.clone()),
+        Mark::Changed => Standing::Changed(sides.view[place].bytes.clone()),
         Mark::Deleted => Standing::Deleted,
     }
 }
 
 /// The fresh value with the standings that the view's lines bring.
-pub fn with_standings(
-    mut value: Value,
-    fresh: &[NodeLine],
-    view: &[NodeLine],
-    rules: &PuttingBack,
-) -> Value {
+pub fn with_standings(mut value: Value, sides: Sides, rules: &Rules) -> Value {
     let mut place = 0;
     tree::for_each_node(&mut value, &mut |node| {
-        if let Some(at) = line_of(place, fresh, rules.edits_go_by) {
-            node.standing = brings(&fresh[at], &view[at], rules);
+        if let Some(at) = line_of(place, sides.fresh, rules.putting_back.edits_go_by) {
+            node.standing = brings(at, sides, &rules.saving);
         }
         place += 1;
     });

@@ -1,13 +1,13 @@
 //! The committed cases: which they are; how often each reply occurs among the seeded ones, what
-//! their programs are made of, and what their sweeps remove.
+//! their programs are made of, what their sweeps remove, and beside what their saved lines stand.
 
-use second::calls;
-use second::cases::{bench, sweep_edges};
+use second::calls::{self, Desk};
+use second::cases::{bench, saved_edges, sweep_edges};
 use second::committed;
 use second::entry::{self, Entry};
-use second::node_line::{self, Mark};
+use second::node_line::{self, FROM_PROGRAM, Mark, NodeLine};
 use second::rules::Rules;
-use second::stream::Call;
+use second::stream::{Call, Case};
 use std::collections::BTreeMap;
 
 /// How often each reply occurs, by call and number.
@@ -73,16 +73,18 @@ fn the_stream_begins_with_the_bench_examples() {
 }
 
 #[test]
-fn the_sweeps_stand_behind_all_others() {
+fn the_sweeps_stand_behind_the_first_cases_and_the_saved_lines_behind_the_sweeps() {
     let cases = committed::cases();
-    let (others, sweeps) = cases.split_at(bench::examples().len() + committed::COUNT);
-    assert!(others.iter().all(|case| case.call != Call::Sweep));
+    let (first, behind) = cases.split_at(bench::examples().len() + committed::COUNT);
+    let sweep_edges: Vec<Case> = sweep_edges::edges().into_iter().map(|edge| edge.case).collect();
+    let (sweeps, saves) = behind.split_at(sweep_edges.len() + committed::SWEEPS);
+    assert!(first.iter().all(|case| case.call != Call::Sweep));
     assert!(sweeps.iter().all(|case| case.call == Call::Sweep));
-    let edges = sweep_edges::edges();
-    assert_eq!(sweeps.len(), edges.len() + committed::SWEEPS);
-    for (case, edge) in sweeps.iter().zip(edges) {
-        assert_eq!(*case, edge.case, "{}", edge.what);
-    }
+    assert!(saves.iter().all(|case| case.call == Call::PutBack));
+    assert!(sweeps.starts_with(&sweep_edges));
+    let saved_edges: Vec<Case> = saved_edges::edges().into_iter().map(|edge| edge.case).collect();
+    assert!(saves.starts_with(&saved_edges));
+    assert_eq!(saves.len(), saved_edges.len() + committed::SAVES);
 }
 
 #[test]
@@ -119,6 +121,51 @@ fn the_sweeps_have_much_to_remove() {
     assert!(changed > 50, "{changed} sweeps have several changed nodes");
     assert!(unmarked_gone > 100, "in {unmarked_gone} sweeps nodes go that have no mark");
     assert!(nothing_left > 20, "{nothing_left} sweeps leave nothing");
+}
+
+#[test]
+fn each_reply_to_a_view_with_saved_lines_occurs_often() {
+    let rules = Rules::document();
+    let mut replies: BTreeMap<u8, usize> = BTreeMap::new();
+    for case in committed::seeded_saves() {
+        *replies.entry(calls::answer(&case, &rules).number).or_default() += 1;
+    }
+    assert_eq!(replies.keys().copied().collect::<Vec<_>>(), [0, 9, 10, 11]);
+    assert!(replies[&0] * 2 > committed::SAVES, "{} views are accepted", replies[&0]);
+    for (number, times) in replies {
+        assert!(times * 100 >= committed::SAVES * 5, "reply {number} occurs {times} times");
+    }
+}
+
+/// The lines marked 01 that have their old text.
+fn saved<'a>(desk: &'a Desk) -> impl Iterator<Item = &'a NodeLine> {
+    let lines = desk.view.iter().zip(&desk.fresh);
+    let saved = |&(line, fresh): &(&NodeLine, &NodeLine)| {
+        line.mark == Mark::Changed && line.bytes == fresh.bytes && line.number != FROM_PROGRAM
+    };
+    lines.filter(saved).map(|(line, _)| line)
+}
+
+#[test]
+fn the_saved_lines_stand_beside_edits_and_are_compared() {
+    let rules = Rules::document();
+    let (mut changed, mut deleted, mut compared, mut unedited) = (0, 0, 0, 0);
+    for case in committed::seeded_saves() {
+        let mut desk = Desk::new(&case, &rules);
+        let accepted = rules.judging.order.iter().all(|&stage| desk.judge(stage).is_ok());
+        if accepted && saved(&desk).next().is_some() {
+            let some = |of: &dyn Fn(&NodeLine) -> bool| usize::from(saved(&desk).any(of));
+            let node = |line: &NodeLine| &desk.returned[usize::from(line.number)];
+            changed += some(&|line| node(line).mark == Mark::Changed);
+            deleted += some(&|line| node(line).mark == Mark::Deleted);
+            compared += some(&|line| desk.compared.contains(&line.number));
+            unedited += usize::from(desk.returned == desk.master);
+        }
+    }
+    assert!(changed > 50, "in {changed} a saved line has a changed copy");
+    assert!(deleted > 20, "in {deleted} a saved line has a deleted copy");
+    assert!(compared > 50, "in {compared} a saved line's text is compared");
+    assert!(unedited > 50, "in {unedited} nothing is edited");
 }
 
 #[test]

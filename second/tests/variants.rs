@@ -1,13 +1,17 @@
-//! Deliberately wrong readings of document 01 and of request #103, each of which the committed cases
-//! tell apart: those of the request, and what sweeping takes over, by sweeps alone.
+//! Deliberately wrong readings of document 01 and of requests #101 and #103, each of which the
+//! committed cases tell apart: those of saved lines by an edge and again by a seeded view with many
+//! of them; those of sweeping, and what it takes over, by sweeps alone.
 
 use second::calls;
+use second::cases::saved_edges;
 use second::committed;
+use second::demand3;
 use second::rules::{
-    ClashPlace, CountPlace, EditsGoBy, Goes, Locking, MarkedMaster, Merging, NumberLines, Rules,
-    Stage,
+    ClashPlace, Comparison, CountPlace, EditsGoBy, Goes, Locking, MarkedMaster, Merging,
+    NumberLines, OldText, Rules, SavedEffect, SavedMarks, Stage,
 };
 use second::stream::{Call, Case};
+use second::verdict::Verdict;
 
 type Variant = (&'static str, fn(&mut Rules));
 
@@ -57,7 +61,7 @@ const WRONG_PROGRAMS_AND_RUNS: [Variant; 18] = [
     ("shown nodes lose their marks", |rules| rules.showing.marks_are_kept = false),
 ];
 
-const WRONG_PUT_BACKS: [Variant; 20] = [
+const WRONG_PUT_BACKS: [Variant; 19] = [
     ("the first copy wins", |rules| rules.putting_back.merging = Merging::FirstWins),
     ("the last copy wins", |rules| rules.putting_back.merging = Merging::LastWins),
     ("an untouched copy votes", |rules| rules.putting_back.merging = Merging::UntouchedVotes),
@@ -87,14 +91,74 @@ const WRONG_PUT_BACKS: [Variant; 20] = [
         rules.putting_back.both_branches_keep_edits = false;
     }),
     ("07 forgets the mark", |rules| rules.putting_back.within_takes_the_mark = false),
-    ("the old text is no change", |rules| rules.putting_back.old_text_is_a_change = false),
     ("deletion spreads to the contents", |rules| rules.putting_back.deletion_spreads = true),
     ("a deleted node loses its contents", |rules| {
         rules.putting_back.deleted_keep_their_contents = false;
     }),
 ];
 
-const WRONG_JUDGING: [Variant; 15] = [
+/// Reply 9 by the mark that counts is none of them: it compares the bytes of a saved line too, and
+/// finds them equal.
+const WRONG_SAVES: [Variant; 20] = [
+    ("the old text is a change", |rules| rules.saving.marks = SavedMarks::None),
+    ("a deleted line counts as untouched, and a saved one as changed", |rules| {
+        rules.saving.marks = SavedMarks::Deleted;
+    }),
+    ("a deleted line counts as untouched, as a saved one does", |rules| {
+        rules.saving.marks = SavedMarks::ChangedAndDeleted;
+    }),
+    ("a line marked 01 is compared with itself", |rules| {
+        rules.saving.old_text = OldText::LineItself;
+    }),
+    ("the old text is that of any fresh line", |rules| {
+        rules.saving.old_text = OldText::AnyFreshLine;
+    }),
+    ("the old text is that of the fresh line at the line's number", |rules| {
+        rules.saving.old_text = OldText::FreshLineAtItsNumber;
+    }),
+    ("the old text is that of the master's line at the line's place", |rules| {
+        rules.saving.old_text = OldText::MasterLineAtItsPlace;
+    }),
+    ("a text as long as the old one is the old one", |rules| {
+        rules.saving.comparison = Comparison::Lengths;
+    }),
+    ("spaces behind a text are not seen", |rules| {
+        rules.saving.comparison = Comparison::BeforeSpacesBehind;
+    }),
+    ("texts are compared up to the end of the shorter one", |rules| {
+        rules.saving.comparison = Comparison::UpToTheShorter;
+    }),
+    ("a text ends at byte 00", |rules| rules.saving.comparison = Comparison::BeforeByte00),
+    ("the first byte is not compared", |rules| {
+        rules.saving.comparison = Comparison::BehindTheFirstByte;
+    }),
+    ("the last byte is not compared", |rules| {
+        rules.saving.comparison = Comparison::BeforeTheLastByte;
+    }),
+    ("an empty text is never the old one", |rules| {
+        rules.saving.comparison = Comparison::NeverOfEmpty;
+    }),
+    ("a text of 32 bytes is never the old one", |rules| {
+        rules.saving.comparison = Comparison::NeverOf32Bytes;
+    }),
+    ("upper and lower case are not told apart", |rules| {
+        rules.saving.comparison = Comparison::InEitherCase;
+    }),
+    ("a node with a saved line and no edit gets mark 01", |rules| {
+        rules.saving.effect = SavedEffect::MarksTheNode;
+    }),
+    ("a compared text may not be saved", |rules| {
+        rules.saving.effect = SavedEffect::ClashesWithLock;
+    }),
+    ("a saved line does not give way to a deletion", |rules| {
+        rules.saving.effect = SavedEffect::ClashesWithDeletion;
+    }),
+    ("a saved line undoes the edit of its copies", |rules| {
+        rules.saving.effect = SavedEffect::UndoesTheEdit;
+    }),
+];
+
+const WRONG_JUDGING: [Variant; 16] = [
     ("4 is judged before 2", |rules| before(rules, Stage::MasterForm, Stage::ProgramForm)),
     ("4 is judged before 3", |rules| before(rules, Stage::MasterForm, Stage::ProgramTree)),
     ("2 is judged before 1", |rules| before(rules, Stage::ProgramForm, Stage::Rooms)),
@@ -104,6 +168,9 @@ const WRONG_JUDGING: [Variant; 15] = [
     ("11 is judged before 10", |rules| before(rules, Stage::Clash, Stage::ProgramMarks)),
     ("10 is never given", |rules| {
         rules.judging.order.retain(|&stage| stage != Stage::ProgramMarks);
+    }),
+    ("10 looks at the mark that counts", |rules| {
+        rules.judging.program_marks_are_read_as_written = false;
     }),
     ("a marked master is put back into", |rules| {
         rules.judging.marked_master = MarkedMaster::NeverRefused;
@@ -265,6 +332,29 @@ fn wrong_programs_and_runs_are_told_apart() {
 #[test]
 fn wrong_ways_of_putting_back_are_told_apart() {
     told_apart(&WRONG_PUT_BACKS);
+}
+
+#[test]
+fn wrong_readings_of_saved_lines_are_told_apart_by_the_edges() {
+    told_apart_by(saved_edges::edges().into_iter().map(|edge| edge.case), &WRONG_SAVES);
+}
+
+#[test]
+fn wrong_readings_of_saved_lines_are_told_apart_by_seeded_views() {
+    told_apart_by(committed::seeded_saves().into_iter(), &WRONG_SAVES);
+}
+
+#[test]
+fn wrong_readings_of_saved_lines_are_seen_by_brute_force() {
+    let saves = committed::saves();
+    let violated =
+        |rules: &Rules| saves.iter().any(|case| demand3::check(case, rules) == Verdict::Violated);
+    for (name, change) in WRONG_SAVES {
+        let mut rules = Rules::document();
+        change(&mut rules);
+        assert!(violated(&rules), "demand 3 holds though {name}");
+    }
+    assert!(!violated(&Rules::document()));
 }
 
 #[test]

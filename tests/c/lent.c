@@ -1,6 +1,6 @@
 /* Calls with short buffers, empty files and every reply, in several threads at once, and compares every byte that was
    lent, and those around it, with what the header promises. The expectations are written by hand from document 01 and
-   request #103. */
+   requests #101 and #103. */
 #include "meadcinder.h"
 
 typedef meadcinder_size size;
@@ -16,13 +16,15 @@ int pthread_join(size thread, void **result);
 #define MASTER HEAD "0201000004026C6F\n"
 #define HI "0001000002026869\n"
 #define LO "0001000004026C6F\n"
+#define LO_SAVED "0001010004026C6F\n"
 #define INNER "08\n06\n0A\n06\n"
 #define TWICE "09\n" INNER INNER
 #define COMPARING "08\n08\n06\n0A\n06\n0A\n0B\n11\n03026869\n01\n02\n"
 
 /* Files too long to be written out; see make_long_files. */
 static char entries_97[97 * 3 + 1], lines_129[129 * 13 + 1], texts_64[64 * 13 + 1], texts_64_twice[128 * 13 + 1];
-static char texts_65[65 * 13 + 1], full[128 * 77 + 1], full_changed[128 * 77 + 1], numbers_128[128 * 5 + 1];
+static char texts_65[65 * 13 + 1], numbers_128[128 * 5 + 1];
+static char full[128 * 77 + 1], full_saved[128 * 77 + 1], full_changed[128 * 77 + 1], full_new[128 * 77 + 1];
 
 enum call { SHOW, PUT_BACK };
 
@@ -60,6 +62,10 @@ static const struct lending lendings[] = {
     {PUT_BACK, MASTER, INNER, HI LO, ROOM, 0, 0, MASTER},
     {PUT_BACK, "", "01\n", "", ROOM, 0, 0, ""},
     {PUT_BACK, full, "01\n", full_changed, ROOM, 0, 0, full_changed},
+    {PUT_BACK, full, "01\n", full_saved, ROOM, 0, 0, full},
+    {PUT_BACK, MASTER, TWICE, HI LO_SAVED HI "0001010004026869\n", ROOM, 0, 0, HEAD "0201010004026869\n"},
+    {PUT_BACK, MASTER, TWICE, HI LO_SAVED HI "0001020004026C6F\n", ROOM, 0, 0, HEAD "0201020004026C6F\n"},
+    {PUT_BACK, MASTER, COMPARING, "0001010002026869\n", ROOM, 0, 0, MASTER},
     {PUT_BACK, MASTER, INNER, HI LO, ROOM - 1, MEADCINDER_SHORT_BUFFER, 0, ""},
     {PUT_BACK, "wrong", "wrong", "wrong", 0, MEADCINDER_SHORT_BUFFER, 0, ""},
     {PUT_BACK, "wrong", "0a\n", "wrong", ROOM, MEADCINDER_PROGRAM_FORM, 0, ""},
@@ -74,6 +80,7 @@ static const struct lending lendings[] = {
     {PUT_BACK, MASTER, INNER, HI, ROOM, MEADCINDER_VIEW_DIFFERS, 1, ""},
     {PUT_BACK, MASTER, INNER, "", ROOM, MEADCINDER_VIEW_DIFFERS, 0, ""},
     {PUT_BACK, MASTER, "03026869\n", "000102FFFF026869\n", ROOM, MEADCINDER_PROGRAM_LINE_MARKED, 0, ""},
+    {PUT_BACK, MASTER, "03026869\n", "000101FFFF026869\n", ROOM, MEADCINDER_PROGRAM_LINE_MARKED, 0, ""},
     {PUT_BACK, MASTER, TWICE, HI "0001010004026869\n" HI "0001010004027878\n", ROOM, MEADCINDER_CLASH, 4, ""},
     {PUT_BACK, MASTER, COMPARING, "0001010002027878\n", ROOM, MEADCINDER_CLASH, 2, ""},
 };
@@ -100,7 +107,7 @@ static const struct sweeping sweepings[] = {
     {"00020200000164\n00010000010168\n", ROOM, NUMBERS, 0, 0, "00010000000168\n", "FFFF\n0000\n"},
     {"", ROOM, NUMBERS, 0, 0, "", ""},
     {full, ROOM, NUMBERS, 0, 0, full, numbers_128},
-    {full_changed, ROOM, NUMBERS, 0, 0, full, numbers_128},
+    {full_changed, ROOM, NUMBERS, 0, 0, full_new, numbers_128},
     {MASTER, ROOM - 1, NUMBERS, MEADCINDER_SHORT_BUFFER, 0, "", ""},
     {MASTER, ROOM, NUMBERS - 1, MEADCINDER_SHORT_BUFFER, 0, "", ""},
     {"wrong", 0, NUMBERS, MEADCINDER_SHORT_BUFFER, 0, "", ""},
@@ -164,22 +171,24 @@ static void write_pair(char *to, unsigned byte) {
     to[1] = "0123456789ABCDEF"[byte & 15];
 }
 
-/* `count` texts at depth 0 of `length` bytes 78 each, numbered from 0. */
-static void write_texts(char *to, int count, int length, unsigned mark) {
+/* `count` texts at depth 0, numbered from 0, each `length` times the same byte. */
+static void write_texts(char *to, int count, unsigned mark, int length, unsigned byte) {
     for (int line = 0; line < count; line++) {
         const unsigned head[6] = {0, 1, mark, 0, (unsigned)line, (unsigned)length};
-        for (int i = 0; i < 6 + length; i++, to += 2) write_pair(to, i < 6 ? head[i] : 0x78);
+        for (int i = 0; i < 6 + length; i++, to += 2) write_pair(to, i < 6 ? head[i] : byte);
         *to++ = '\n';
     }
 }
 
 static void make_long_files(void) {
     for (int line = 0; line < 97; line++) memcpy(entries_97 + 3 * line, "01\n", 3);
-    write_texts(lines_129, 129, 0, 0);
-    write_texts(texts_64, 64, 0, 0);
-    write_texts(texts_65, 65, 0, 0);
-    write_texts(full, 128, 32, 0);
-    write_texts(full_changed, 128, 32, 1);
+    write_texts(lines_129, 129, 0, 0, 0);
+    write_texts(texts_64, 64, 0, 0, 0);
+    write_texts(texts_65, 65, 0, 0, 0);
+    write_texts(full, 128, 0, 32, 0x78);
+    write_texts(full_saved, 128, 1, 32, 0x78);
+    write_texts(full_changed, 128, 1, 32, 0x79);
+    write_texts(full_new, 128, 0, 32, 0x79);
     for (int line = 0; line < 128; line++) {
         memcpy(numbers_128 + 5 * line, "00__\n", 5);
         write_pair(numbers_128 + 5 * line + 2, (unsigned)line);

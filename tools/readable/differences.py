@@ -2,7 +2,7 @@
 
 from collections import defaultdict
 
-from .nodes import FROM_PROGRAM
+from .nodes import FROM_PROGRAM, KINDS, MARKS
 from .words import quote
 
 
@@ -31,6 +31,8 @@ def compare(copy, before, after):
         return [f"{name}: line {after[0]} is only in the second"]
     if after is None:
         return [f"{name}: line {before[0]} is only in the first"]
+    if is_saved(before, after):
+        return [f"{name}: line {before[0]}: saved, its text is the same"]
     changes = [
         f"{field} {written(old)} -> {written(new)}"
         for field, old, new in zip(before[1]._fields, before[1], after[1])
@@ -38,6 +40,14 @@ def compare(copy, before, after):
     ]
     where = f"line {before[0]}" if before[0] == after[0] else f"line {before[0]} -> {after[0]}"
     return [f"{name}: {where}: {', '.join(changes)}"] if changes else []
+
+
+def is_saved(before, after):
+    """Whether all that happened to a text of the master is the mark, so that it still counts as untouched. With that
+    mark an element or a line from the program is refused, as is every line in another place."""
+    place, node = before
+    marked = node._replace(mark=MARKS[1])
+    return node.kind == KINDS[1] and node.number != FROM_PROGRAM and node.mark == MARKS[0] and after == (place, marked)
 
 
 def written(value):

@@ -17,7 +17,7 @@ MEANINGS = {
     7: "the run stopped at entry {place} of the program: its value is too large or too deep",
     8: "line {place} of your view has not the form of a node line, or is one line too many",
     9: "line {place} of your view is not the line that was shown, or only one of the two has such a line",
-    10: "line {place} of your view came from the program, so it cannot be changed or deleted",
+    10: "line {place} of your view came from the program, so it must not be marked as changed or deleted",
     11: "the edits of node {place} contradict each other, or its text was compared while the view was made",
 }
 

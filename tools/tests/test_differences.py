@@ -6,7 +6,7 @@ import tempfile
 import unittest
 
 from readable import differences
-from readable.nodes import Node
+from readable.nodes import MARKS, Node
 
 from .command import meadcinder
 
@@ -31,6 +31,38 @@ class Differences(unittest.TestCase):
     def test_an_edited_copy(self):
         edited = FRESH.replace(b"0001000004026C6F", b"0001010004026869", 1)
         self.assertEqual(self.diff(FRESH, edited), 'node 4: line 1: mark untouched -> changed, text "lo" -> "hi"\n')
+
+    def test_a_line_that_was_only_marked_is_saved(self):
+        edited = b'view\ntext 2 "hi"\ntext 4 "lo" changed\ntext 2 "hi"\ntext 4 "hi" changed\ntext program "a"\n'
+        said = ("node 4: line 1: saved, its text is the same\n"
+                'node 4: line 3: mark untouched -> changed, text "lo" -> "hi"\n')
+        self.assertEqual(self.diff(FRESH, edited), said)
+
+    def test_saved_is_any_text_of_the_master_at_any_depth(self):
+        said = "node 0: line 0: saved, its text is the same\nnode 258: line 1: saved, its text is the same\n"
+        self.assertEqual(self.diff(b"000100000000\n02010001020161\n", b"000101000000\n02010101020161\n"), said)
+
+    def test_what_is_more_or_less_than_marked_is_not_called_saved(self):
+        text = b"0001000004026C6F\n"
+        for first, second, said in (
+            (text, b"0001020004026C6F\n", "node 4: line 0: mark untouched -> deleted\n"),
+            (b"0001020004026C6F\n", b"0001010004026C6F\n", "node 4: line 0: mark deleted -> changed\n"),
+            (b"0001010004026C6F\n", text, "node 4: line 0: mark changed -> untouched\n"),
+            (b"0001010004026C6F\n", b"0001010004026C6F\n", "no difference\n"),
+            (text, b"0001010004026C6E\n", 'node 4: line 0: mark untouched -> changed, text "lo" -> "ln"\n'),
+            (text, b"0001010004016C\n", 'node 4: line 0: mark untouched -> changed, text "lo" -> "l"\n'),
+            (text, b"0001010004036C6F20\n", 'node 4: line 0: mark untouched -> changed, text "lo" -> "lo "\n'),
+            (text, b"0101010004026C6F\n", "node 4: line 0: depth 0 -> 1, mark untouched -> changed\n"),
+            (b"000100FFFF0161\n", b"000101FFFF0161\n", "from the program: line 0: mark untouched -> changed\n"),
+            (b"00020000010177\n", b"00020100010177\n", "node 1: line 0: mark untouched -> changed\n"),
+        ):
+            with self.subTest(first=first, second=second):
+                self.assertEqual(self.diff(first, second), said)
+
+    def test_a_line_that_moved_is_not_called_saved(self):
+        moved = b"0001010004026C6F\n0001000002026869\n"
+        said = "node 4: line 1 -> 0: mark untouched -> changed\nthe order differs from line 0 of the first on\n"
+        self.assertEqual(self.diff(b"0001000002026869\n0001000004026C6F\n", moved), said)
 
     def test_the_readable_form_beside_hex_lines(self):
         readable = b'view\ntext 2 "hi"\ntext 4 "lo"\ntext 2 "hi" deleted\ntext 4 "lo"\ntext program "b"\n'
@@ -57,7 +89,7 @@ class Differences(unittest.TestCase):
         chance = random.Random(20_071)
         alike = 0
         for _ in range(3_000):
-            first, second = ([Node(0, "text", chance.choice(("untouched", "deleted")), chance.randrange(3), b"")
+            first, second = ([Node(0, "text", chance.choice(tuple(MARKS.values())), chance.randrange(3), b"")
                               for _ in range(chance.randrange(4))] for _ in range(2))
             self.assertEqual(differences.differences(first, second) == [], first == second, (first, second))
             alike += first == second

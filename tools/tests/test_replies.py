@@ -15,7 +15,7 @@ NAMED = {
     7: ("entry 7 of the program", "stopped", "too large", "too deep"),
     8: ("line 7 of your view", "form"),
     9: ("line 7 of your view is not the line that was shown",),
-    10: ("line 7 of your view", "came from the program"),
+    10: ("line 7 of your view", "came from the program", "marked as changed or deleted"),
     11: ("node 7", "contradict", "compared"),
 }
 

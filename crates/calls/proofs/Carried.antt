@@ -1,5 +1,5 @@
 -- The standings of the view's lines as words, and what the master's standings at the end come to: reply 11, or the lines handed back.
-use mathlib.Core.Path.{_≡_, refl, sym, ap, ap₂, _∙_}
+use mathlib.Core.Path.{_≡_, refl, sym, ap, ap₂, subst, _∙_}
 use mathlib.Core.Bool.{Bool, true, false, cond}
 use mathlib.Core.List.{List, [], _∷_, map}
 use Prim.Native.Nat.{ℕ, zero, suc, _+_, _-_, _<_}
@@ -12,8 +12,10 @@ use Rattle.lines.specs.declared.verdict.Verdict.the-variants.{Fine, Fault}
 use Rattle.lines.specs.Texts.{sameText}
 use Rattle.lines.specs.Nodes.{Line, changedMark, deletedMark, noLine}
 use Rattle.lines.specs.Verdicts.{reply, firstFrom}
-use Rattle.values.specs.Values.{Value, Lookup, bytesOf, isFrom}
-use Rattle.values.specs.Standings.{Standing, untouched, changed, deleted, isClash, firstOf, restOf, gathered, brings, handsBack}
+use Rattle.lines.specs.Views.{markCounted, countedLine, countedLines}
+use Rattle.lines.specs.Theorems.CountedMarks.{counted-length, counted-text}
+use Rattle.values.specs.Values.{Value, isFrom}
+use Rattle.values.specs.Standings.{Standing, untouched, changed, deleted, isClash, firstOf, restOf, gathered, says, brings, handsBack}
 use Rattle.values.specs.Engine.Words.{standingOf, Named, AllNamed}
 use Rattle.values.specs.Theorems.MergeLaws.{sameText-sound, sameText-refl, unit-left, unit-right}
 use Rattle.values.specs.Theorems.Copies.{standingAt}
@@ -21,8 +23,10 @@ use Rattle.runs.specs.Results.{gives, stops}
 use Rattle.runs.specs.Programs.{Transformation}
 use Rattle.runs.specs.Showing.{Shown}
 use Rattle.runs.specs.PuttingBack.{Back, putBack, untouchedSlots, gatheredSlots, valueOf}
-use Rattle.runs.specs.Grounds.{numberedFrom, linesIn, lookupIn, whole, oneMaster, showing, brought, standing, standingFor, firstClash, handedBack}
+use Rattle.runs.specs.Grounds.{numberedFrom, linesIn, lookupIn, whole, Ground, oneMaster, showing, shownLine, view, brought, standing, standingFor}
+use Rattle.runs.specs.Grounds.{firstClash, handedBack}
 use Rattle.calls.specs.Judging.{keeps, judgedStandings}
+use Rattle.calls.specs.Theorems.SavedLines.{shown-text}
 use Rattle.calls.specs.Engine.Parts.{textsOf, handedOver, firstWith, broughtWord, broughtWords}
 
 -- ## The first line with a text
@@ -109,31 +113,39 @@ module _ (es : List Line) where
   all-named [] has = tt
   all-named (l ∷ ls) has = (named-word l (has 0 (omega arith)), all-named ls (rest-names l ls has))
 
-  pub brought-named : AllNamed (textsOf es) (broughtWords es)
-  brought-named = all-named es names-own
+  -- with the marks that count the texts are the same
+  counted-names : (fs : List Line) → AllNames (countedLines fs es)
+  counted-names fs i h =
+      subst (λ (t : List ℕ). textsOf es (firstWith t 0 es) ≡ t) (sym (counted-text fs es i)) (names-own i (omega (arith, counted-length fs es)))
 
-  -- a line brings what its word stands for, whatever the fresh line's bytes are
-  standing-word : (l : Line) → Names l → (fresh : List ℕ) → standingOf (textsOf es) (broughtWord es l) ≡ brings fresh (l .mark) (l .text)
-  unfolding broughtWord brings
-  standing-word l has fresh = go (eqb (l .mark) changedMark) (eqb (l .mark) deletedMark)
+  pub brought-named : (fs : List Line) → AllNamed (textsOf es) (broughtWords fs es)
+  brought-named fs = all-named (countedLines fs es) (counted-names fs)
+
+  -- the word of a line stands for what its mark says
+  standing-word : (l : Line) → Names l → standingOf (textsOf es) (broughtWord es l) ≡ says (l .mark) (l .text)
+  unfolding broughtWord says
+  standing-word l has = go (eqb (l .mark) changedMark) (eqb (l .mark) deletedMark)
     where
       go : (a b : Bool) → standingOf (textsOf es) (cond a (4 + firstWith (l .text) 0 es) (cond b 2 0)) ≡ cond a (changed (l .text)) (cond b deleted untouched)
       go true b = changed-word (textsOf es) (firstWith (l .text) 0 es) ∙ ap changed has
       go false true = deleted-word (textsOf es)
       go false false = untouched-word (textsOf es)
 
-  standings-from : (look : Lookup) (v : Value) (ls : List Line) → length v ≡ length ls → AllNames ls
-      → map (standingOf (textsOf es)) (map (broughtWord es) ls) ≡ brought look v ls
-  unfolding brought
-  standings-from look [] [] e has = refl
-  standings-from look [] (l ∷ ls) e has = absurd (omega arith)
-  standings-from look (x ∷ v) [] e has = absurd (omega arith)
-  standings-from look (x ∷ v) (l ∷ ls) e has =
-      ap₂ (λ (s : Standing) (ss : List Standing). s ∷ ss) (standing-word l (has 0 (omega arith)) (bytesOf look (x .origin)))
-      (standings-from look v ls (omega arith) (rest-names l ls has))
+  standings-from : (G : Ground) (v : Value) (ls : List Line) → length v ≡ length ls → AllNames (countedLines (view G v) ls)
+      → map (standingOf (textsOf es)) (map (broughtWord es) (countedLines (view G v) ls)) ≡ brought (lookupIn (G .lines)) v ls
+  unfolding brought brings view countedLines
+  standings-from G [] [] e has = refl
+  standings-from G [] (l ∷ ls) e has = absurd (omega arith)
+  standings-from G (x ∷ v) [] e has = absurd (omega arith)
+  standings-from G (x ∷ v) (l ∷ ls) e has =
+      let f = shownLine (G .lines) (x .depth) (x .origin) in
+      ap₂ (λ (s : Standing) (ss : List Standing). s ∷ ss)
+      (standing-word (countedLine f l) (has 0 (omega arith))
+      ∙ ap (λ (t : List ℕ). says (markCounted t (l .mark) (l .text)) (l .text)) (shown-text (G .lines) (x .depth) (x .origin)))
+      (standings-from G v ls (omega arith) (rest-names (countedLine f l) (countedLines (view G v) ls) has))
 
-  pub brought-standings : (look : Lookup) (v : Value) → length v ≡ length es → map (standingOf (textsOf es)) (broughtWords es) ≡ brought look v es
-  brought-standings look v e = standings-from look v es e names-own
+  pub brought-standings : (G : Ground) (v : Value) → length v ≡ length es → map (standingOf (textsOf es)) (broughtWords (view G v) es) ≡ brought (lookupIn (G .lines)) v es
+  brought-standings G v e = standings-from G v es e (counted-names (view G v))
 
 -- ## Standings beside the master's lines: `s` says of each number what stands at its place
 

@@ -21,7 +21,7 @@ use Rattle.runs.specs.Results.{gives}
 use Rattle.runs.specs.Programs.{Transformation}
 use Rattle.runs.specs.Reading.{readProgram}
 use Rattle.runs.specs.Showing.{Shown}
-use Rattle.runs.specs.Grounds.{oneMaster, numberedFrom, lookupIn, showing}
+use Rattle.runs.specs.Grounds.{oneMaster, showing}
 use Rattle.runs.specs.Engine.Runs.{madeBy, Ready, valueOnly, marksAt, marksTo, PutSpace, Seen, PutBy}
 use Rattle.runs.specs.declared.slots.SlotWords.{SlotWords}
 use Rattle.runs.specs.Engine.SlotWords.{noSlots}
@@ -30,9 +30,11 @@ use Rattle.runs.specs.Theorems.WholePrograms.{program-placed}
 use Rattle.calls.specs.Judging.{judgedStandings}
 use Rattle.calls.specs.Outcomes.{outRoom, settled}
 use Rattle.calls.specs.declared.reply.Reply.{Reply}
-use Rattle.calls.specs.Engine.Parts.{replied, Settles, sourceWords, broughtWord, broughtWords, textsOf}
+use Rattle.calls.specs.Engine.Parts.{replied, Settles, sourceWords, broughtWords, textsOf}
 use Rattle.calls.specs.Engine.Parts.{handedLines, HandingRoom, Carriable, CarriedBack}
 use Rattle.calls.proofs.Grounded.{program-ready, same-lookup, source-value, no-slots-at, no-slots-bound, same-showing}
+use Rattle.calls.specs.Theorems.FreshLines.{length-view}
+use Rattle.calls.proofs.ViewWords.{length-brought}
 use Rattle.calls.proofs.Carried.{brought-named, brought-standings, putBackWhole, broughtIn, carried-clashes, carried-goes}
 use Rattle.calls.proofs.Steps.{written-settles}
 
@@ -49,12 +51,19 @@ pub record Stood (E : List Entry) (L es : List Line) (w out : List ℕ) : Type 0
   pub inside : 256 + length L ≤ length w
   pub searched : (n : ℕ) → n ≡ length L → (first : Verdict) → ((texts : ℕ → List ℕ) → first ≡ firstFrom isClash 0 (standingsAt texts w 256 n)) → Handed E L es w out first
 
-module _ {E : List Entry} {ends : List ℕ} {L es : List Line} {w out : List ℕ} (k : Carriable E ends L es w out) where
+module _ {E : List Entry} {ends : List ℕ} {L fresh es : List Line} {w out : List ℕ} (k : Carriable E ends L fresh es w out) where
   abbrev words : List ℕ
-  words = broughtWords es
+  words = broughtWords fresh es
 
   few-words : length words ≤ 128
-  few-words = let e = length-map es (broughtWord es) in let f = k .few in omega arith
+  few-words = let e = length-brought fresh es in let f = k .few in omega arith
+
+  -- as many fresh lines as the view has
+  pub fresh-many : length fresh ≡ length es
+  fresh-many =
+      let X = k .runnable .tree in
+      let o = k .shows X (length E) (program-placed E X (k .runnable .read) .stands) in
+      ap length (o .3) ∙ length-view L (o .0 .value) ∙ o .2
 
   module _ {w₁ : List ℕ} (comes : w₁ ≡ putAt w 128 words) where
     fits : 128 + length words ≤ length w
@@ -70,7 +79,7 @@ module _ {E : List Entry} {ends : List ℕ} {L es : List Line} {w out : List ℕ
 
     view-words : part w₁ 128 (length es) ≡ words
     view-words =
-        ap (λ (l : List ℕ). part l 128 (length es)) comes ∙ ap (part (putAt w 128 words) 128) (sym (length-map es (broughtWord es))) ∙ put-part w 128 words (omega arith)
+        ap (λ (l : List ℕ). part l 128 (length es)) comes ∙ ap (part (putAt w 128 words) 128) (sym (length-brought fresh es)) ∙ put-part w 128 words (omega arith)
 
     -- what `put` asks
     pub put-space : (marks : List ℕ) → length marks ≡ 512 → PutSpace w₁ marks noSlots 0 (length L) 128 (length es) 256 12
@@ -129,7 +138,10 @@ module _ {E : List Entry} {ends : List ℕ} {L es : List Line} {w out : List ℕ
 
         view-brings : standingsAt (textsOf es) w₁ 128 (length es) ≡ broughtIn L X es o shows
         unfolding standingsAt
-        view-brings = ap (map (standingOf (textsOf es))) view-words ∙ brought-standings es (lookupIn (numberedFrom 0 L)) (o .value) (k .shows X (length E) stands .2)
+        view-brings =
+            let shown = k .shows X (length E) stands in
+            ap (map (standingOf (textsOf es))) (view-words ∙ ap (λ (fs : List Line). broughtWords fs es) (shown .3))
+            ∙ brought-standings es (oneMaster L) (o .value) (shown .2)
 
         no-marks : marksAt (textsOf es) marks noSlots ≡ []
         unfolding marksAt marksTo
@@ -137,7 +149,7 @@ module _ {E : List Entry} {ends : List ℕ} {L es : List Line} {w out : List ℕ
 
         is-handed : handed ≡ putBackWhole L X (broughtIn L X es o shows) .inSource
         is-handed =
-            put .meets (textsOf es) (subst (AllNamed (textsOf es)) (sym view-words) (brought-named es)) tt X (length E) stands .0
+            put .meets (textsOf es) (subst (AllNamed (textsOf es)) (sym view-words) (brought-named es fresh)) tt X (length E) stands .0
             ∙ rw (same-lookup L, no-slots-at (madeBy E) w₁, source-value (madeBy E) w₁ L (k .runnable .few-lines) foot, view-brings, no-marks) refl
 
         clash-refuses : (n : ℕ) → firstFrom isClash 0 handed ≡ Fault n → (r : Reply) → r ≡ replied 11 n 0 → Settles (judgedStandings (oneMaster L) X es) out out r

@@ -55,10 +55,10 @@ same-count k (v ∷ vs) (f ∷ fs) h = ap suc (same-count (suc k) vs fs (go (sam
     go false q = cc
 
 -- the step of a view judged beside the fresh one: its refusal, or what is carried into the master
-pub record Beside (E : List Entry) (ends : List ℕ) (L : List Line) (w out edited places : List ℕ) (step : Step) : Type 0 where
+pub record Beside (E : List Entry) (ends : List ℕ) (L fresh : List Line) (w out edited places : List ℕ) (step : Step) : Type 0 where
   pub refuses : (r : Reply) → step ≡ Refused r → ComparedBack E L edited out out r
   pub few : (v : ℕ) → step ≡ Goes v → v ≤ 128
-  pub carriable : (v : ℕ) → step ≡ Goes v → Carriable E ends L (linesOf edited (take (v - 0) places)) w out
+  pub carriable : (v : ℕ) → step ≡ Goes v → Carriable E ends L fresh (linesOf edited (take (v - 0) places)) w out
   pub settles : (v : ℕ) → step ≡ Goes v → (out′ : List ℕ) (r : Reply) → CarriedBack E L (linesOf edited (take (v - 0) places)) out out′ r → ComparedBack E L edited out out′ r
 
 module _ {E : List Entry} {ends : List ℕ} {L : List Line} {len : ℕ} {w out : List ℕ} (k : Comparable E ends L len w out) where
@@ -143,7 +143,7 @@ module _ {E : List Entry} {ends : List ℕ} {L : List Line} {len : ℕ} {w out :
             unfolding firstDifference
             as-many = same-count 0 es fresh (passed .same)
 
-            carriable : Carriable E ends L es w out
+            carriable : Carriable E ends L (linesOf file (take (m - 0) noted)) es w out
             carriable =
                 record {
                   runnable = k .runnable;
@@ -151,7 +151,7 @@ module _ {E : List Entry} {ends : List ℕ} {L : List Line} {len : ℕ} {w out :
                   foot = k .goes .foot;
                   shows = λ X q h.
                       let g = k .goes .shows X q h in
-                      (g .0, g .1, sym (as-many ∙ length-view L (valueAt (madeBy E) w 128 len) ∙ ap length (g .2)));
+                      (g .0, g .1, sym (as-many ∙ length-view L (valueAt (madeBy E) w 128 len) ∙ ap length (g .2)), scanned-lines ∙ ap (view (oneMaster L)) (g .2));
                   room = k .room;
                   work-room = k .work-room;
                   short = λ ls h.
@@ -169,5 +169,5 @@ module _ {E : List Entry} {ends : List ℕ} {L : List Line} {len : ℕ} {w out :
                 passed-settles _ _ es
                 (subst (λ (ls : List Line). judgedView ls edited ≡ gives es) (fresh-is X read o shows) (goes .judged ∙ ap gives edited-are)) out out′ r (h X read)
 
-          pub judged-beside : Beside E ends L w out edited places t
+          pub judged-beside : Beside E ends L (linesOf file (take (m - 0) noted)) w out edited places t
           judged-beside = record { refuses = view-refuses; few = few-edited; carriable = carriable; settles = carried-compares }

@@ -8,7 +8,9 @@ use native.Mathlib.Omega.{arith}
 use borrow.Author.Tests.{eq-eqb, ne-eqb}
 use lib.ListN.{length, getD, drop, length-map}
 use Rattle.lines.specs.Texts.{sameText}
-use Rattle.lines.specs.Nodes.{Line, noLine}
+use Rattle.lines.specs.Nodes.{Line, noLine, lineAt}
+use Rattle.lines.specs.Views.{countedLine, countedLines}
+use Rattle.lines.specs.Theorems.CountedMarks.{counted-length, counted-at}
 use Rattle.lines.specs.Theorems.Lists.{map-at}
 use Rattle.lines.specs.Theorems.LinesAt.{nodes-one, line-at, text-at}
 use Rattle.lines.specs.Engine.Starts.{textAt, nodeAt, linesOf}
@@ -59,9 +61,11 @@ module _ (view lines : List ℕ) (i : ℕ) (inside : i < length lines) (j : ℕ)
 -- ## The word of a line
 
 -- the mark that the code reads
-pub mark-read : (view lines : List ℕ) (i : ℕ) → i < length lines → {m : ℕ} → m ≡ nodeAt view (getD lines i 0) .mark
-    → m ≡ (getD (linesOf view lines) i noLine) .mark
-mark-read view lines i h e = e ∙ ap (λ (l : Line). l .mark) (sym (line-at (nodeAt view) lines i noLine h))
+pub mark-read : (view lines fresh starts : List ℕ) (i : ℕ) → i < length lines → i < length starts
+    → {m : ℕ} → m ≡ countedLine (nodeAt fresh (getD starts i 0)) (nodeAt view (getD lines i 0)) .mark
+    → m ≡ countedLine (lineAt (linesOf fresh starts) i) (lineAt (linesOf view lines) i) .mark
+mark-read view lines fresh starts i h k e =
+    e ∙ ap₂ (λ (f v : Line). countedLine f v .mark) (sym (line-at (nodeAt fresh) starts i noLine k)) (sym (line-at (nodeAt view) lines i noLine h))
 
 module _ (es : List Line) (l : Line) where
   pub word-changed : {n : ℕ} → l .mark ≡ 1 → n ≡ firstWith (l .text) 0 es → 4 + n ≡ broughtWord es l
@@ -78,13 +82,18 @@ module _ (es : List Line) (l : Line) where
 
 -- ## The words of all lines
 
-pub length-brought : (es : List Line) → length (broughtWords es) ≡ length es
-length-brought es = length-map es (broughtWord es)
+pub length-brought : (fs es : List Line) → length (broughtWords fs es) ≡ length es
+length-brought fs es = length-map (countedLines fs es) (broughtWord es) ∙ counted-length fs es
 
-module _ (view lines : List ℕ) where
-  pub words-long : length (broughtWords (linesOf view lines)) ≡ length lines
-  words-long = length-brought (linesOf view lines) ∙ length-map lines (nodeAt view)
+module _ (view lines fresh starts : List ℕ) where
+  pub words-long : length (broughtWords (linesOf fresh starts) (linesOf view lines)) ≡ length lines
+  words-long = length-brought (linesOf fresh starts) (linesOf view lines) ∙ length-map lines (nodeAt view)
 
-  pub word-at : (i : ℕ) → i < length lines
-      → getD (broughtWords (linesOf view lines)) i 0 ≡ broughtWord (linesOf view lines) (getD (linesOf view lines) i noLine)
-  word-at i h = map-at (broughtWord (linesOf view lines)) (linesOf view lines) i 0 noLine (omega (arith, length-map lines (nodeAt view)))
+  pub word-at : (i : ℕ) → i < length lines → i < length starts
+      → getD (broughtWords (linesOf fresh starts) (linesOf view lines)) i 0
+      ≡ broughtWord (linesOf view lines) (countedLine (lineAt (linesOf fresh starts) i) (lineAt (linesOf view lines) i))
+  word-at i h k =
+      let long = length-map lines (nodeAt view) in
+      map-at (broughtWord (linesOf view lines)) (countedLines (linesOf fresh starts) (linesOf view lines)) i 0 noLine
+      (omega (arith, counted-length (linesOf fresh starts) (linesOf view lines)))
+      ∙ ap (broughtWord (linesOf view lines)) (counted-at (linesOf fresh starts) (linesOf view lines) i (omega (arith, length-map starts (nodeAt fresh))) (omega arith))

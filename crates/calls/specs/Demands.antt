@@ -1,24 +1,25 @@
--- The three demands, as predicates over any calls: any functions from the lent contents to an outcome.
--- Ours meet them (Theorems/Demand12, Theorems/Demand3), the trials do not (crate trials).
+-- The three demands, and request #101 on bytes, as predicates over any calls: any functions from the lent contents to an outcome.
+-- Ours meet them (Theorems/Demand12, Theorems/Demand3, Theorems/SavedLines); the trials do not meet the demands (crate trials).
 use Prim.Native.Nat.{ℕ, _<_}
 use mathlib.Core.Path.{_≡_}
 use mathlib.Core.Bool.{true, false, cond}
 use mathlib.Core.List.{List}
-use mathlib.Core.Logic.{_↔_}
+use mathlib.Core.Logic.{_↔_, _⊎_}
 use lib.Dec.{eqb}
 use lib.ListN.{length, take, drop}
 use Rattle.lines.specs.declared.scan.File.the-variants.{View}
 use Rattle.lines.specs.declared.scan.Scan.the-variants.{Lines}
 use Rattle.lines.specs.Files.{scan}
-use Rattle.lines.specs.Nodes.{Line, nodes, isMarked, changedMark, programNumber, lineAt}
+use Rattle.lines.specs.Nodes.{Line, nodes, untouchedMark, changedMark, deletedMark, programNumber, lineAt}
 use Rattle.lines.specs.Verdicts.{Reply}
+use Rattle.lines.specs.Views.{countedLines}
 use Rattle.lines.specs.Writing.{fileOf}
 use Rattle.values.specs.Values.{among}
 use Rattle.runs.specs.Results.{gives, stops}
 use Rattle.runs.specs.Programs.{Transformation}
 use Rattle.runs.specs.Showing.{Shown}
 use Rattle.runs.specs.Grounds.{oneMaster, showing, view}
-use Rattle.calls.specs.Judging.{Judged, judgedProgram, judgedMaster, judgedShow, judgedPutBack}
+use Rattle.calls.specs.Judging.{Judged, judgedProgram, judgedMaster, judgedView, judgedShow, judgedPutBack}
 use Rattle.calls.specs.Outcomes.{Outcome, outcome, enough}
 
 -- ## Any call, and what its outcome says
@@ -116,9 +117,17 @@ pub record Given (master program edited out work : List ℕ) : Type 0 where
   -- "that differs from the fresh one only by marks on lines from the master and by the texts of lines marked changed":
   pub differs : OnlyEdits (nodes edited) (view (oneMaster lines) (shown .value))
 
--- "a marked line is an edited one": line i is a marked line of node n
-pub record EditedLine (edited : List Line) (n i : ℕ) : Type 0 where
-  pub marked : isMarked (lineAt edited i) ≡ true
+-- the fresh view's lines
+abbrev pub freshLines : {master program edited out work : List ℕ} → Given master program edited out work → List Line
+freshLines given = view (oneMaster (given .lines)) (given .shown .value)
+
+-- "an edited line is from now on a deleted line or one with a new text" (request #101), beside the fresh line f
+abbrev pub IsEdited : Line → Line → Type 0
+IsEdited f v = (v .mark ≡ deletedMark) ⊎ ((v .mark ≡ changedMark) × (v .text ≡ f .text → ⊥))
+
+-- line i is an edited line of node n
+pub record EditedLine (fresh edited : List Line) (n i : ℕ) : Type 0 where
+  pub edit : IsEdited (lineAt fresh i) (lineAt edited i)
   pub number : (lineAt edited i) .number ≡ n
 
 -- the same edit: deleted, or changed to the same text
@@ -127,26 +136,29 @@ pub record SameEdit (v w : Line) : Type 0 where
   pub text : v .mark ≡ changedMark → v .text ≡ w .text
 
 -- of node n: "all edited lines of one node carry the same edit and no edited node's text was compared while the view was made"
-pub record Acceptable (edited : List Line) (compared : List ℕ) (n : ℕ) : Type 0 where
-  pub same : (i j : ℕ) → EditedLine edited n i → EditedLine edited n j → SameEdit (lineAt edited i) (lineAt edited j)
-  pub uncompared : (i : ℕ) → EditedLine edited n i → among n compared ≡ false
+pub record Acceptable (fresh edited : List Line) (compared : List ℕ) (n : ℕ) : Type 0 where
+  pub same : (i j : ℕ) → EditedLine fresh edited n i → EditedLine fresh edited n j → SameEdit (lineAt edited i) (lineAt edited j)
+  pub uncompared : (i : ℕ) → EditedLine fresh edited n i → among n compared ≡ false
 
 -- otherwise: a node whose edited lines differ, or that was compared and edited
-pub data Clashes (edited : List Line) (compared : List ℕ) (n : ℕ) : Type 0 where
-  differ : (i j : ℕ) → EditedLine edited n i → EditedLine edited n j → (SameEdit (lineAt edited i) (lineAt edited j) → ⊥) → Clashes edited compared n
-  compare : (i : ℕ) → EditedLine edited n i → among n compared ≡ true → Clashes edited compared n
+pub data Clashes (fresh edited : List Line) (compared : List ℕ) (n : ℕ) : Type 0 where
+  differ : (i j : ℕ) → EditedLine fresh edited n i → EditedLine fresh edited n j → (SameEdit (lineAt edited i) (lineAt edited j) → ⊥) → Clashes fresh edited compared n
+  compare : (i : ℕ) → EditedLine fresh edited n i → among n compared ≡ true → Clashes fresh edited compared n
 
 -- the line of a node with the edit of a view line: deleted, or changed to that line's text
 abbrev pub withEdit : Line → Line → Line
 withEdit l v = record { depth = l .depth; kind = l .kind; mark = v .mark; number = l .number; text = cond (eqb (v .mark) changedMark) (v .text) (l .text) }
 
--- a master's lines, the view's, and the returned master's
-pub record HasEdits (ls edited returned : List Line) : Type 0 where
+-- a master's lines, the fresh view's, the edited one's, and the returned master's
+pub record HasEdits (ls fresh edited returned : List Line) : Type 0 where
   pub count : length returned ≡ length ls
   -- "Then each node has the edit of its lines,"
-  pub edits : (n i : ℕ) → EditedLine edited n i → lineAt returned n ≡ withEdit (lineAt ls n) (lineAt edited i)
+  pub edits : (n i : ℕ) → EditedLine fresh edited n i → lineAt returned n ≡ withEdit (lineAt ls n) (lineAt edited i)
   -- "every other node is unchanged,"
-  pub others : (n : ℕ) → ((i : ℕ) → EditedLine edited n i → ⊥) → lineAt returned n ≡ lineAt ls n
+  pub others : (n : ℕ) → ((i : ℕ) → EditedLine fresh edited n i → ⊥) → lineAt returned n ≡ lineAt ls n
+  -- "and a node none of whose lines is edited is handed back with mark 00, even if a line of it had 01" (request #101), and with its old text
+  pub unedited : (n : ℕ) → ((i : ℕ) → EditedLine fresh edited n i → ⊥)
+      → ((lineAt returned n) .mark ≡ untouchedMark) × ((lineAt returned n) .text ≡ (lineAt ls n) .text)
 
 -- the fresh view's lines, the returned master's, and those that it shows
 pub record SameLines (fresh returned again : List Line) : Type 0 where
@@ -164,21 +176,30 @@ pub record SameLines (fresh returned again : List Line) : Type 0 where
 -- what demand 3 asks, where this is given, of putting back, whose outcome is r, and of showing
 pub record Answers (show : ShowLike) (master program edited out work : List ℕ) (given : Given master program edited out work) (r : Outcome) : Type 0 where
   -- "it is accepted exactly if all edited lines of one node carry the same edit and no edited node's text was compared while the view was made."
-  pub accepted : (numberOf r ≡ 0) ↔ ((n : ℕ) → Acceptable (nodes edited) (given .shown .compared) n)
+  pub accepted : (numberOf r ≡ 0) ↔ ((n : ℕ) → Acceptable (freshLines given) (nodes edited) (given .shown .compared) n)
   -- "Then each node has the edit of its lines, every other node is unchanged,"
-  pub returned : numberOf r ≡ 0 → HasEdits (given .lines) (nodes edited) (nodes (written r))
+  pub returned : numberOf r ≡ 0 → HasEdits (given .lines) (freshLines given) (nodes edited) (nodes (written r))
   -- "and showing the returned master succeeds"
   pub succeeds : numberOf r ≡ 0 → (out work : List ℕ) → enough out work ≡ true → numberOf (show (written r) program out work) ≡ 0
   -- "with the same lines in the same order, each with its node's text and mark there, or as before if the program made it."
   pub again : numberOf r ≡ 0 → (out work : List ℕ) → enough out work ≡ true
-      → SameLines (view (oneMaster (given .lines)) (given .shown .value)) (nodes (written r)) (nodes (written (show (written r) program out work)))
+      → SameLines (freshLines given) (nodes (written r)) (nodes (written (show (written r) program out work)))
   -- otherwise 11, at the "least node number" of those that clash
   pub refused : (numberOf r ≡ 0 → ⊥)
       → (numberOf r ≡ 11)
-      × Clashes (nodes edited) (given .shown .compared) (placeOf r)
-      × ((n : ℕ) → n < placeOf r → Clashes (nodes edited) (given .shown .compared) n → ⊥)
+      × Clashes (freshLines given) (nodes edited) (given .shown .compared) (placeOf r)
+      × ((n : ℕ) → n < placeOf r → Clashes (freshLines given) (nodes edited) (given .shown .compared) n → ⊥)
 
 abbrev pub Demand3 : ShowLike → PutLike → Type 0
 Demand3 show put =
     (master program edited out work : List ℕ) (given : Given master program edited out work)
     → Answers show master program edited out work given (put master program edited out work)
+
+-- ## Request #101 on bytes: "A line marked 01 whose bytes equal the fresh line's counts as untouched."
+
+-- a view that passes 8 to 10 is put back as the one in which each line has the mark that counts: number, place, length and every byte, equal buffers lent
+abbrev pub SavedSame : PutLike → Type 0
+SavedSame put =
+    (master program edited : List ℕ) (X : Transformation) → judgedProgram program ≡ gives X → (ls : List Line) → judgedMaster true master ≡ gives ls
+    → (o : Shown) → showing (oneMaster ls) X ≡ gives o → let fresh = view (oneMaster ls) (o .value) in (es : List Line) → judgedView fresh edited ≡ gives es
+    → (out work : List ℕ) → put master program edited out work ≡ put master program (fileOf (countedLines fresh es)) out work

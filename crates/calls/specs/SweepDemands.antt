@@ -13,7 +13,7 @@ use Rattle.runs.specs.Results.{gives, stops}
 use Rattle.calls.specs.Judging.{judgedMaster}
 use Rattle.calls.specs.Outcomes.{Outcome, outcome}
 use Rattle.calls.specs.Sweeping.{enoughForBoth}
-use Rattle.calls.specs.Demands.{PutLike, numberOf, placeOf, lengthOf, outputOf, written, Writes, Given, EditedLine, HasEdits}
+use Rattle.calls.specs.Demands.{PutLike, numberOf, placeOf, lengthOf, outputOf, written, Writes, Given, freshLines, EditedLine, HasEdits}
 
 abbrev pub SweepLike : Type 0
 SweepLike = (master out numbers : List ℕ) → Outcome
@@ -68,16 +68,16 @@ pub record SweepDemand (sweep : SweepLike) : Type 0 where
 -- ## After a put-back: "demand 3 speaks of the master before the sweep", and this of the one behind it
 
 -- a line of node n is deleted in the view
-abbrev pub DeletedInView : List Line → ℕ → Type 0
-DeletedInView edited n = (i : ℕ) × EditedLine edited n i × ((lineAt edited i) .mark ≡ deletedMark)
+abbrev pub DeletedInView : List Line → List Line → ℕ → Type 0
+DeletedInView fresh edited n = (i : ℕ) × EditedLine fresh edited n i × ((lineAt edited i) .mark ≡ deletedMark)
 
--- the master's lines, the view's, those of the swept master, and the new numbers:
+-- the master's lines, the fresh view's, the edited one's, those of the swept master, and the new numbers:
 -- of the lines with their edits those stay that are not deleted in the view and not under such a one, each with its new text
-abbrev pub SweptEdits : (ls edited ss : List Line) (ns : List ℕ) → Type 0
-SweptEdits ls edited ss ns = (with-edits : List Line) × HasEdits ls edited with-edits × SweepsBy (DeletedInView edited) with-edits ss ns
+abbrev pub SweptEdits : (ls fresh edited ss : List Line) (ns : List ℕ) → Type 0
+SweptEdits ls fresh edited ss ns = (with-edits : List Line) × HasEdits ls fresh edited with-edits × SweepsBy (DeletedInView fresh edited) with-edits ss ns
 
 abbrev pub SweepsAfter : PutLike → SweepLike → Type 0
 SweepsAfter put sweep =
     (master program edited out work : List ℕ) (given : Given master program edited out work) → numberOf (put master program edited out work) ≡ 0
     → (out₂ numbers₂ : List ℕ) → enoughForBoth out₂ numbers₂ ≡ true → let r = sweep (written (put master program edited out work)) out₂ numbers₂ in
-    (numberOf r ≡ 0) × SweptEdits (given .lines) (nodes edited) (nodes (written r)) (numbersGiven (length (given .lines)) r)
+    (numberOf r ≡ 0) × SweptEdits (given .lines) (freshLines given) (nodes edited) (nodes (written r)) (numbersGiven (length (given .lines)) r)

@@ -15,6 +15,7 @@ pub mod Demand12
 pub mod ViewEdits
 pub mod ShownNumbers
 pub mod EditedLines
+pub mod SavedLines
 pub mod ClashSearch
 pub mod Demand3
 -- The call sweep: its contract decides, and it is what its request asks; no other is; after a put-back it is what the edits say

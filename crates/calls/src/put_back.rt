@@ -60,15 +60,17 @@ fn carry(
     nodes: &[u16],
     view: &[u8],
     lines: &[u16],
+    fresh: &[u8],
+    fresh_lines: &[u16],
     out: &mut [u8],
     work: &mut [u32],
 ) -> Reply
     requires { ⌜ Carriable (entriesOf (now program) (now entries)) (now ends) (linesOf (now master) (now nodes))
-        (linesOf (now view) (now lines)) (now work) (now out) ⌝ }
+        (linesOf (now fresh) (now «fresh_lines»)) (linesOf (now view) (now lines)) (now work) (now out) ⌝ }
     ensures { λ r. ⌜ CarriedBack (entriesOf (now (program .entry)) (now (entries .entry))) (linesOf (now (master .entry)) (now (nodes .entry)))
         (linesOf (now (view .entry)) (now (lines .entry))) (now (out .entry)) (now (out .exit)) r ⌝ }
 {
-    bring_view(view, lines, work);
+    bring_view(view, lines, fresh, fresh_lines, work);
     let mut marks = [0u32; MARKS];
     let at = root(nodes.len(), HANDED, SHOWN, lines.len());
     put(program, entries, ends, master, nodes, work, &mut marks, at);
@@ -114,6 +116,8 @@ fn compared(
                     nodes,
                     view,
                     &lines[0..v],
+                    &fresh[0..end],
+                    &fresh_lines[0..m],
                     out,
                     work,
                 ),

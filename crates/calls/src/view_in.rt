@@ -2,7 +2,6 @@
 use crate::reply::Step;
 use crate::reply::refuse;
 use crate::room::SHOWN;
-use lines::fields::mark_at;
 use lines::fields::node_text;
 use lines::scan::File;
 use lines::scan::Scan;
@@ -10,6 +9,7 @@ use lines::scan::scan_lines;
 use lines::texts::same_text;
 use lines::verdict::Verdict;
 use lines::view::difference;
+use lines::view::mark_counted;
 use lines::view::program_mark;
 use values::standings::CHANGED;
 use values::standings::DELETED;
@@ -18,7 +18,8 @@ ghost use mathlib.Core.Path.{_≡_};
 ghost use Prim.Native.Nat.{_≤_, _<_};
 ghost use lib.ListN.{length, getD};
 ghost use Rattle.lines.specs.Writing.{putAt};
-ghost use Rattle.lines.specs.Nodes.{noLine};
+ghost use Rattle.lines.specs.Nodes.{noLine, lineAt};
+ghost use Rattle.lines.specs.Views.{countedLine};
 ghost use Rattle.lines.specs.Engine.Starts.{linesOf};
 ghost use Rattle.calls.specs.Engine.Parts.{ViewJudged, firstWith, broughtWord, broughtWords};
 
@@ -62,12 +63,13 @@ fn first_same(view: &[u8], lines: &[u16], i: usize) -> usize
     i
 }
 
-// What line i brings, as a word.
-fn brought(view: &[u8], lines: &[u16], i: usize) -> u32
-    requires { ⌜ (i < length (now lines)) × (length (now lines) ≤ 128) ⌝ }
-    ensures { λ r. ⌜ r ≡ broughtWord (linesOf (now (view .entry)) (now (lines .entry))) (getD (linesOf (now (view .entry)) (now (lines .entry))) i noLine) ⌝ }
+// What line i brings beside the fresh one, as a word.
+fn brought(view: &[u8], lines: &[u16], fresh: &[u8], fresh_lines: &[u16], i: usize) -> u32
+    requires { ⌜ (i < length (now lines)) × (i < length (now «fresh_lines»)) × (length (now lines) ≤ 128) ⌝ }
+    ensures { λ r. ⌜ r ≡ broughtWord (linesOf (now (view .entry)) (now (lines .entry)))
+        (countedLine (lineAt (linesOf (now (fresh .entry)) (now («fresh_lines» .entry))) i) (lineAt (linesOf (now (view .entry)) (now (lines .entry))) i)) ⌝ }
 {
-    let mark = mark_at(view, lines[i]);
+    let mark = mark_counted(view, lines[i], fresh, fresh_lines[i]);
     if mark == 1 {
         return CHANGED + first_same(view, lines, i) as u32;
     }
@@ -78,13 +80,14 @@ fn brought(view: &[u8], lines: &[u16], i: usize) -> u32
 }
 
 // The words of the view's standings, at SHOWN.
-pub fn bring_view(view: &[u8], lines: &[u16], work: &mut [u32])
-    requires { ⌜ (length (now lines) ≤ 128) × (256 ≤ length (now work)) ⌝ }
-    ensures { λ r. ⌜ now (work .exit) ≡ putAt (now (work .entry)) 128 (broughtWords (linesOf (now (view .entry)) (now (lines .entry)))) ⌝ }
+pub fn bring_view(view: &[u8], lines: &[u16], fresh: &[u8], fresh_lines: &[u16], work: &mut [u32])
+    requires { ⌜ (length (now «fresh_lines») ≡ length (now lines)) × (length (now lines) ≤ 128) × (256 ≤ length (now work)) ⌝ }
+    ensures { λ r. ⌜ now (work .exit) ≡ putAt (now (work .entry)) 128
+        (broughtWords (linesOf (now (fresh .entry)) (now («fresh_lines» .entry))) (linesOf (now (view .entry)) (now (lines .entry)))) ⌝ }
 {
     let mut i: usize = 0;
     while i < lines.len() {
-        work[SHOWN + i] = brought(view, lines, i);
+        work[SHOWN + i] = brought(view, lines, fresh, fresh_lines, i);
         i += 1;
     }
 }

@@ -10,6 +10,7 @@ pub mod LongFiles
 pub mod RoundTrip
 pub mod LineRules
 pub mod MasterRules
+pub mod CountedMarks
 pub mod FirstFault
 pub mod Places
 pub mod LinesAt

@@ -4,11 +4,12 @@ use crate::fields::kind_at;
 use crate::fields::mark_at;
 use crate::fields::node_text;
 use crate::fields::number_at;
+use crate::texts::same_text;
 use crate::texts::text_byte;
 use crate::texts::text_len;
 use crate::verdict::Verdict;
 ghost use mathlib.Core.Path.{_≡_};
-ghost use Rattle.lines.specs.Views.{sameHead, firstDifference, programMarked, programMark};
+ghost use Rattle.lines.specs.Views.{sameHead, firstDifference, programMarked, programMark, countedLine};
 ghost use Rattle.lines.specs.Engine.Starts.{nodeAt, linesOf};
 
 // Depth, kind and number.
@@ -84,4 +85,18 @@ pub fn program_mark(view: &[u8], vs: &[u16]) -> Verdict
         i += 1;
     }
     Verdict::Fine
+}
+
+// The mark that counts: a line marked 01 with the fresh line's bytes was saved and not touched.
+pub fn mark_counted(view: &[u8], v: u16, fresh: &[u8], f: u16) -> u8
+    ensures { λ r. ⌜ r ≡ countedLine (nodeAt (now (fresh .entry)) f) (nodeAt (now (view .entry)) v) .mark ⌝ }
+{
+    let mark = mark_at(view, v);
+    if mark != 1 {
+        return mark;
+    }
+    if same_text(view, node_text(v), fresh, node_text(f)) {
+        return 0;
+    }
+    mark
 }

@@ -5,10 +5,9 @@ use mathlib.Core.Bool.{true, false}
 use mathlib.Core.List.{List}
 use Rattle.lines.specs.Nodes.{Line, nodes}
 use Rattle.runs.specs.Results.{gives}
-use Rattle.runs.specs.Grounds.{oneMaster, view}
 use Rattle.calls.specs.Judging.{judgedMaster, judgedShow, judgedPutBack}
 use Rattle.calls.specs.Outcomes.{enough, showCall}
-use Rattle.calls.specs.Demands.{numberOf, written, RefusesRightly, WritesRightly, Given, Answers, SameLines}
+use Rattle.calls.specs.Demands.{numberOf, written, RefusesRightly, WritesRightly, Given, freshLines, Answers, SameLines}
 use Rattle.calls.specs.Sweeping.{enoughForBoth, sweepCall}
 use Rattle.calls.specs.SweepDemands.{SweepRefuses, SweepAnswers}
 use Rattle.meadcinder.specs.Forms.{PackedOutcome, ownWork, asRead, ShowsInC, bothAsRead, SweepsInC}
@@ -34,7 +33,7 @@ pub record Demand3 (master program edited out : List ℕ) (given : Given master 
   pub again : numberOf (asRead left) ≡ 0 → (out₂ : List ℕ) → enough out₂ ownWork ≡ true
       → (shown : PackedOutcome) → ShowsInC (written (asRead left)) program out₂ shown
       → (numberOf (asRead shown) ≡ 0)
-      × SameLines (view (oneMaster (given .lines)) (given .shown .value)) (nodes (written (asRead left))) (nodes (written (asRead shown)))
+      × SameLines (freshLines given) (nodes (written (asRead left))) (nodes (written (asRead shown)))
 
 -- ## Request #103
 

@@ -2,14 +2,13 @@
 use mathlib.Core.Path.{_≡_}
 use mathlib.Core.Bool.{true}
 use mathlib.Core.List.{List, []}
-use mathlib.Core.Logic.{_⊎_}
 use Prim.Native.Nat.{ℕ, _≤_}
 use lib.ListN.{length}
 use Rattle.lines.specs.declared.verdict.Verdict.{Verdict}
 use Rattle.lines.specs.declared.verdict.Verdict.the-variants.{Fine as Faultless, Fault}
 use Rattle.lines.specs.Entries.{Entry}
-use Rattle.lines.specs.Nodes.{Line, kindRule, changedMark, deletedMark, lineAt}
-use Rattle.lines.specs.Views.{firstDifference, programMark}
+use Rattle.lines.specs.Nodes.{Line, kindRule, deletedMark, lineAt}
+use Rattle.lines.specs.Views.{firstDifference, programMark, countedLines}
 use Rattle.lines.specs.Masters.{masterBounds, unmarked}
 use Rattle.values.specs.Values.{among, mostNodes}
 use Rattle.values.specs.Theorems.Copies.{isCopy}
@@ -19,7 +18,7 @@ use Rattle.runs.specs.Results.{Result, gives, stops}
 use Rattle.runs.specs.Programs.{Transformation}
 use Rattle.runs.specs.Reading.{readProgram}
 use Rattle.runs.specs.Showing.{Shown}
-use Rattle.runs.specs.Grounds.{numberedFrom, lineOf, linesIn, oneMaster, showing, view, standingFor, firstClash, handedBack}
+use Rattle.runs.specs.Grounds.{numberedFrom, linesIn, oneMaster, showing, view, standingFor, firstClash, handedBack}
 use Rattle.paper.specs.Data.{Sequence, May, fail, got}
 use Rattle.paper.specs.Contexts.{PairContext}
 use Rattle.paper.specs.Operators.{Guard, guard}
@@ -65,21 +64,27 @@ handedBackBy X ls edited = linesIn (handedBack (standingFor (oneMaster ls) X edi
 abbrev pub putBackBy : Guard → Transformation → List Line → List Line → May (Sequence × PairContext)
 putBackBy g X ls edited = backward g (inPaper X) [] (sequence ls) (sequence edited)
 
--- a line of node n, whose text was compared, that is marked deleted, or changed to the text it has
-pub record Suspect (ls edited : List Line) (o : Shown) (n : ℕ) : Type 0 where
+-- the view that it is given, with the marks that count: "A line marked 01 whose bytes equal the fresh line's counts as untouched."
+abbrev pub countedView : List Line → Shown → List Line → List Line
+countedView ls o edited = countedLines (view (oneMaster ls) (o .value)) edited
+
+-- a line of node n, whose text was compared, that is marked deleted
+pub record Suspect (edited : List Line) (o : Shown) (n : ℕ) : Type 0 where
   pub place : ℕ
   pub copy : isCopy n (o .value) place ≡ true
   pub compared : among n (o .compared) ≡ true
-  pub edit : ((lineAt edited place) .mark ≡ deletedMark) ⊎ (((lineAt edited place) .mark ≡ changedMark) × ((lineAt edited place) .text ≡ (lineOf (numberedFrom 0 ls) n) .text))
+  pub edit : (lineAt edited place) .mark ≡ deletedMark
 
+-- the rules on a view as written, the paper on that view with the marks that count
 pub record PuttingBackAgrees (X : Transformation) (ls edited : List Line) (o : Shown) : Type 0 where
   -- where the rules have no clash, the paper with the strict guard hands back an S, and the lines handed back are S's,
-  pub accepted : clashOf X ls edited ≡ Faultless → (S : Sequence) × (putBackBy strictGuard X ls edited ≡ got (S, [])) × (handedBackBy X ls edited ≡ paperLines (kindsIn ls) S)
+  pub accepted : clashOf X ls edited ≡ Faultless
+      → (S : Sequence) × (putBackBy strictGuard X ls (countedView ls o edited) ≡ got (S, [])) × (handedBackBy X ls edited ≡ paperLines (kindsIn ls) S)
   -- and where they have one, it fails
-  pub refused : (n : ℕ) → clashOf X ls edited ≡ Fault n → putBackBy strictGuard X ls edited ≡ fail
+  pub refused : (n : ℕ) → clashOf X ls edited ≡ Fault n → putBackBy strictGuard X ls (countedView ls o edited) ≡ fail
   -- as printed it accepts whatever the strict one accepts, with the same result,
-  pub printed : (r : Sequence × PairContext) → putBackBy strictGuard X ls edited ≡ got r → putBackBy guard X ls edited ≡ got r
+  pub printed : (r : Sequence × PairContext) → putBackBy strictGuard X ls (countedView ls o edited) ≡ got r → putBackBy guard X ls (countedView ls o edited) ≡ got r
   -- where it fails the rules have a clash,
-  pub failing : putBackBy guard X ls edited ≡ fail → (n : ℕ) × (clashOf X ls edited ≡ Fault n)
-  -- and where it accepts a clash, the text in clash was compared, and deleted or marked changed to its own text
-  pub apart : (r : Sequence × PairContext) → putBackBy guard X ls edited ≡ got r → (n : ℕ) → clashOf X ls edited ≡ Fault n → Suspect ls edited o n
+  pub failing : putBackBy guard X ls (countedView ls o edited) ≡ fail → (n : ℕ) × (clashOf X ls edited ≡ Fault n)
+  -- and where it accepts a clash, the text in clash was compared, and deleted
+  pub apart : (r : Sequence × PairContext) → putBackBy guard X ls (countedView ls o edited) ≡ got r → (n : ℕ) → clashOf X ls edited ≡ Fault n → Suspect edited o n

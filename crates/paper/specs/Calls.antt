@@ -1,9 +1,11 @@
--- Demand 2 of any calls, on bytes: what they write is what section 3 of the paper yields of the files' lines, and where they refuse a run or a clash the paper fails.
+-- Demand 2 of any calls, on bytes: what they write is what section 3 of the paper yields of the files' lines, a view's with the marks that count,
+-- and where they refuse a run or a clash the paper fails.
 use Prim.Native.Nat.{ℕ, _≤_}
 use mathlib.Core.Path.{_≡_}
 use mathlib.Core.List.{List, []}
 use Rattle.lines.specs.Nodes.{nodes}
 use Rattle.lines.specs.Entries.{entries}
+use Rattle.lines.specs.Views.{countedLines}
 use Rattle.lines.specs.Writing.{fileOf}
 use Rattle.runs.specs.Results.{gives}
 use Rattle.runs.specs.Programs.{Transformation}
@@ -34,12 +36,22 @@ pub record OnPaper (master program : List ℕ) : Type 0 where
   pub reads : readProgram (entries program) ≡ gives tree
   pub whole : Whole master master
 
--- the paper's answers
+-- what the paper shows
 abbrev pub shownByPaper : Transformation → List ℕ → May Sequence
 shownByPaper X master = forward (inPaper X) [] (sequence (nodes master))
 
-abbrev pub putBackByPaper : Guard → Transformation → List ℕ → List ℕ → May (Sequence × PairContext)
-putBackByPaper g X master edited = backward g (inPaper X) [] (sequence (nodes master)) (sequence (nodes edited))
+-- a view besides: the paper shows something of the master, and the view is read whole
+pub record ViewOnPaper (master program edited : List ℕ) : Type 0 where
+  pub given : OnPaper master program
+  pub shown : Sequence
+  pub shows : shownByPaper (given .tree) master ≡ got shown
+  pub whole : Whole master edited
+
+-- what the paper puts back: the view with the marks that count, "A line marked 01 whose bytes equal the fresh line's counts as untouched",
+-- where the fresh lines are those of what the paper itself shows
+abbrev pub putBackByPaper : {master program edited : List ℕ} → Guard → ViewOnPaper master program edited → May (Sequence × PairContext)
+putBackByPaper {master} {program} {edited} g v =
+    backward g (inPaper (v .given .tree)) [] (sequence (nodes master)) (sequence (countedLines (paperLines (kindsIn (nodes master)) (v .shown)) (nodes edited)))
 
 -- ## Showing
 
@@ -59,16 +71,15 @@ ShowsAsPaper show = (master program out work : List ℕ) → ShownAsPaper master
 pub record PutBackAsPaper (master program edited : List ℕ) (r : Outcome) : Type 0 where
   -- 0: the paper hands back an S, with the strict guard and with its own, and the bytes written are S's
   pub done : numberOf r ≡ 0
-      → (g : OnPaper master program)
-      × Whole master edited
+      → (v : ViewOnPaper master program edited)
       × (S : Sequence)
-      × (putBackByPaper strictGuard (g .tree) master edited ≡ got (S, []))
-      × (putBackByPaper guard (g .tree) master edited ≡ got (S, []))
+      × (putBackByPaper strictGuard v ≡ got (S, []))
+      × (putBackByPaper guard v ≡ got (S, []))
       × (written r ≡ paperFile master S)
   -- 6: it fails to show
   pub stopped : numberOf r ≡ 6 → (g : OnPaper master program) × (shownByPaper (g .tree) master ≡ fail)
   -- 11: with the strict guard it fails to put back
-  pub clashed : numberOf r ≡ 11 → (g : OnPaper master program) × Whole master edited × (putBackByPaper strictGuard (g .tree) master edited ≡ fail)
+  pub clashed : numberOf r ≡ 11 → (v : ViewOnPaper master program edited) × (putBackByPaper strictGuard v ≡ fail)
   -- the others are 1 to 5 and 8 to 10, which judge buffers and files, and 7, for size, which the paper has not
   pub others : numberOf r ≤ 11
 

@@ -5,6 +5,7 @@ use mathlib.Core.List.{List, [], _∷_, map}
 use lib.Dec.{eqb}
 use Rattle.lines.specs.Texts.{sameText}
 use Rattle.lines.specs.Nodes.{Line, changedMark, deletedMark}
+use Rattle.lines.specs.Views.{markCounted}
 use Rattle.values.specs.Values.{Value, isFrom}
 
 -- "untouched, locked, changed to a text, deleted, or clash"
@@ -78,14 +79,17 @@ gathered n (x ∷ v) ss = cond (isFrom n (x .origin)) (firstOf ss) untouched ⋓
 
 -- ## Lines
 
--- what a view line brings, by the bytes of the fresh line (at which no case looks), its own mark and its own bytes:
--- "untouched (mark 00), changed to its bytes (01) or deleted (02)"; "A line marked 01 counts as changed even if its text is the old one"
-unfoldable pub brings : List ℕ → ℕ → List ℕ → Standing
-brings fresh mark bytes = cond (eqb mark changedMark) (changed bytes) (cond (eqb mark deletedMark) deleted untouched)
+-- what a mark says of bytes: "untouched (mark 00), changed to its bytes (01) or deleted (02)"
+unfoldable pub says : ℕ → List ℕ → Standing
+says mark bytes = cond (eqb mark changedMark) (changed bytes) (cond (eqb mark deletedMark) deleted untouched)
 
--- whether that line is edited: by its mark alone
+-- what a view line brings, by the bytes of the fresh line, its own mark and its own bytes: what the mark that counts says
+unfoldable pub brings : List ℕ → ℕ → List ℕ → Standing
+brings fresh mark bytes = says (markCounted fresh mark bytes) bytes
+
+-- whether that line is edited, "a deleted line or one with a new text": by the mark that counts alone
 unfoldable pub isEdit : List ℕ → ℕ → List ℕ → Bool
-isEdit fresh mark bytes = eqb mark changedMark || eqb mark deletedMark
+isEdit fresh mark bytes = let counts = markCounted fresh mark bytes in eqb counts changedMark || eqb counts deletedMark
 
 -- what a standing leaves of the master's line: "locked is handed back as untouched", "Deleted nodes stay, marked"
 unfoldable pub handsBack : Line → Standing → Line

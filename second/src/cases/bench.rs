@@ -1,4 +1,5 @@
-//! The thirteen bench examples of document 01: their cases, and the reply that it gives to each.
+//! The thirteen bench examples of document 01: their cases, and the reply that it gives to each;
+//! to example 6, that of request #101.
 
 use crate::calls::Reply;
 use crate::stream::{Call, Case};
@@ -14,19 +15,23 @@ pub const M: [&str; 5] =
     ["00020000000164", "01020000010177", "0201000002026869", "01020000030177", "0201000004026C6F"];
 
 /// M with node 4 changed to "hi".
-const M_EDITED: [&str; 5] = [M[0], M[1], M[2], M[3], "0201010004026869"];
+pub const M_EDITED: [&str; 5] = [M[0], M[1], M[2], M[3], "0201010004026869"];
 
 pub const P: [&str; 4] = ["08", "06", "0A", "06"];
 
 pub const PP: [&str; 9] = ["09", "08", "06", "0A", "06", "08", "06", "0A", "06"];
 
+/// The texts that P shows and that are "hi".
+pub const EQUAL_TO_HI: [&str; 11] =
+    ["08", "08", "06", "0A", "06", "0A", "0B", "11", "03026869", "01", "02"];
+
 /// Nodes 2 and 4 as P shows them, and node 4 as a fitter may leave it.
-const HI: &str = "0001000002026869";
-const LO: &str = "0001000004026C6F";
-const LO_TO_HI: &str = "0001010004026869";
-const LO_TO_XX: &str = "0001010004027878";
-const LO_TO_LO: &str = "0001010004026C6F";
-const LO_DELETED: &str = "0001020004026C6F";
+pub const HI: &str = "0001000002026869";
+pub const LO: &str = "0001000004026C6F";
+pub const LO_TO_HI: &str = "0001010004026869";
+pub const LO_TO_XX: &str = "0001010004027878";
+pub const LO_SAVED: &str = "0001010004026C6F";
+pub const LO_DELETED: &str = "0001020004026C6F";
 
 const EMPTY: [&str; 0] = [];
 
@@ -59,15 +64,14 @@ fn two_copies() -> Vec<Example> {
         example(4, put_back(&[HI, LO_TO_HI, HI, LO]), done(&M_EDITED)),
         example(5, put_back(&[HI, LO_TO_HI, HI, LO_TO_XX]), refused(11, 4)),
         example(5, put_back(&[HI, LO_DELETED, HI, LO_TO_HI]), refused(11, 4)),
-        example(6, put_back(&[HI, LO_TO_LO, HI, LO_TO_HI]), refused(11, 4)),
+        example(6, put_back(&[HI, LO_SAVED, HI, LO_TO_HI]), done(&M_EDITED)),
     ]
 }
 
 fn a_compared_text() -> Vec<Example> {
-    let program = ["08", "08", "06", "0A", "06", "0A", "0B", "11", "03026869", "01", "02"];
     vec![
-        example(7, show(&M, &program), done(&[HI])),
-        example(7, put_back(&M, &program, &["0001010002027878"]), refused(11, 2)),
+        example(7, show(&M, &EQUAL_TO_HI), done(&[HI])),
+        example(7, put_back(&M, &EQUAL_TO_HI, &["0001010002027878"]), refused(11, 2)),
     ]
 }
 

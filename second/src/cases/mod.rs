@@ -1,14 +1,17 @@
-//! The bench examples and the edges of sweeping; and seeded cases: each aims at a reply, some at two,
-//! and most at none.
+//! The bench examples and the edges of sweeping and of saved lines; and seeded cases: each aims at
+//! a reply, some at two, and most at none.
 
 pub mod bench;
 mod build;
 mod chance;
 mod damage;
+mod edge;
 mod edits;
 mod faults;
 mod masters;
 mod programs;
+pub mod saved_edges;
+pub mod saves;
 pub mod sweep_edges;
 pub mod sweeps;
 mod templates;
@@ -73,7 +76,7 @@ pub fn cases(seed: u64, count: usize) -> Vec<Case> {
     (0..count).map(|index| case(seed, index)).collect()
 }
 
-/// A show or a put back; the sweeps have a stream of their own.
+/// A show or a put back; sweeps, and views with many saved lines, have streams of their own.
 pub fn case(seed: u64, index: usize) -> Case {
     let mut chance = Chance::of_case(seed, index);
     let call = match chance.percent(PUT_BACK_SHARE) {

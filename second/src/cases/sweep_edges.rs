@@ -1,14 +1,9 @@
 //! Sweeps at the edges of request #103, and the reply that it asks for to each, written by hand.
 
 use super::bench::{M, file, nested, refused, texts};
+use super::edge::{Edge, all_with_mark, edge, longest_lines, with_mark};
 use crate::calls::Reply;
 use crate::stream::Case;
-
-pub struct Edge {
-    pub what: &'static str,
-    pub case: Case,
-    pub reply: Reply,
-}
 
 const EMPTY: [&str; 0] = [];
 const GONE: &str = "FFFF";
@@ -37,7 +32,7 @@ fn of_the_bench() -> Vec<Edge> {
     let from_example_10 = [M[0], "01020200010177", "0201010002026C6F", M[3], M[4]];
     let row_2 = [M[0], "01020000010177", "0201000002026C6F"];
     let without_the_root = ["00020200000164", M[1], M[2], M[3], M[4]];
-    let all: Vec<String> = M.iter().map(|line| with_mark(line, "02")).collect();
+    let all = all_with_mark(&M, "02");
     let same = ["0000", "0001", "0002", "0003", "0004"];
     vec![
         edge("no mark", sweep(&M), swept(&M, &same)),
@@ -117,9 +112,6 @@ fn elements_in_elements() -> Vec<Edge> {
 
 fn full_masters() -> Vec<Edge> {
     let full = texts(128);
-    let marked = |mark, lines: &[String]| -> Vec<String> {
-        lines.iter().map(|line| with_mark(line, mark)).collect()
-    };
     let same: Vec<String> = (0..128).map(|number| format!("{number:04X}")).collect();
     let mut one_deleted = full.clone();
     one_deleted[5] = with_mark(&one_deleted[5], "02");
@@ -129,9 +121,9 @@ fn full_masters() -> Vec<Edge> {
     vec![
         edge("128 nodes", sweep(&full), swept(&full, &same)),
         edge("one of 128 deleted", sweep(&one_deleted), swept(&full[..127], &one_less)),
-        edge("128 deleted", sweep(&marked("02", &full)), swept(&EMPTY, &[GONE; 128])),
+        edge("128 deleted", sweep(&all_with_mark(&full, "02")), swept(&EMPTY, &[GONE; 128])),
         edge("128 of the longest lines", sweep(&longest), swept(&longest, &same)),
-        edge("the same, changed", sweep(&marked("01", &longest)), swept(&longest, &same)),
+        edge("the same, changed", sweep(&all_with_mark(&longest, "01")), swept(&longest, &same)),
     ]
 }
 
@@ -200,24 +192,10 @@ fn two_faults() -> Vec<Edge> {
     ]
 }
 
-fn edge(what: &'static str, case: Case, reply: Reply) -> Edge {
-    Edge { what, case, reply }
-}
-
 pub fn sweep<S: AsRef<str>>(master: &[S]) -> Case {
     Case::sweep(file(master))
 }
 
 pub fn swept<S: AsRef<str>, T: AsRef<str>>(lines: &[S], numbers: &[T]) -> Reply {
     Reply { numbers: file(numbers), ..Reply::done(file(lines)) }
-}
-
-/// A node line with another mark, which is its third pair.
-fn with_mark(line: &str, mark: &str) -> String {
-    [&line[..4], mark, &line[6..]].concat()
-}
-
-/// 128 texts of 32 bytes.
-fn longest_lines() -> Vec<String> {
-    (0..128).map(|number| format!("000100{number:04X}20{}", "6C".repeat(32))).collect()
 }

@@ -8,7 +8,7 @@ use super::{SecondRooms, edits, faults, masters, words};
 use crate::calls;
 use crate::entry;
 use crate::node_line::{self, FROM_PROGRAM, Kind, Mark, NodeLine};
-use crate::rules::Rules;
+use crate::rules::{Rules, SavedMarks};
 use crate::stream::{Call, Case};
 
 /// The fault that a case is given.
@@ -60,9 +60,11 @@ fn aims(chance: &mut Chance) -> Vec<Aim> {
     aims
 }
 
-/// What the first accepted put back returns; over the whole master every one is.
+/// What the first accepted put back returns; over the whole master every one is. An old text marked
+/// changed keeps its mark, as before request #101: such masters are there to be swept.
 fn returned_master(chance: &mut Chance) -> Vec<NodeLine> {
-    let rules = Rules::document();
+    let mut rules = Rules::document();
+    rules.saving.marks = SavedMarks::None;
     loop {
         let reply = calls::answer(&put_back(chance), &rules);
         if reply.number == 0 {

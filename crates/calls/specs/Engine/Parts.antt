@@ -10,6 +10,7 @@ use Rattle.lines.specs.Nodes.{Line, nodes, changedMark, deletedMark, noLine}
 use Rattle.lines.specs.Entries.{Entry, entries}
 use Rattle.lines.specs.Masters.{masterBounds}
 use Rattle.lines.specs.Verdicts.{reply}
+use Rattle.lines.specs.Views.{countedLines}
 use Rattle.lines.specs.declared.verdict.Verdict.the-variants.{Fine}
 use Rattle.lines.specs.Writing.{fileOf}
 use Rattle.lines.specs.Engine.Starts.{linesOf, entriesOf}
@@ -165,20 +166,22 @@ unfoldable pub firstWith : List ℕ → ℕ → List Line → ℕ
 firstWith text k [] = k
 firstWith text k (l ∷ ls) = cond (sameText (l .text) text) k (firstWith text (suc k) ls)
 
--- the word of what a view line brings, among the view's lines
+-- the word of what the mark of a line says, among the view's lines
 unfoldable pub broughtWord : List Line → Line → ℕ
 broughtWord es l = cond (eqb (l .mark) changedMark) (4 + firstWith (l .text) 0 es) (cond (eqb (l .mark) deletedMark) 2 0)
 
-abbrev pub broughtWords : List Line → List ℕ
-broughtWords es = map (broughtWord es) es
+-- the words of what the view's lines bring beside the fresh ones
+abbrev pub broughtWords : List Line → List Line → List ℕ
+broughtWords fresh es = map (broughtWord es) (countedLines fresh es)
 
 -- ## Putting back, once the program has run
 
-pub record Carriable (E : List Entry) (ends : List ℕ) (L es : List Line) (w out : List ℕ) : Type 0 where
+pub record Carriable (E : List Entry) (ends : List ℕ) (L fresh es : List Line) (w out : List ℕ) : Type 0 where
   pub runnable : Runnable E ends L
   pub few : length es ≤ 128
   pub foot : part w 0 (length L) ≡ sourceWords 0 L
-  pub shows : (X : Transformation) (q : ℕ) → Stands E X 0 q → (o : Shown) × (showing (oneMaster L) X ≡ gives o) × (length (o .value) ≡ length es)
+  pub shows : (X : Transformation) (q : ℕ) → Stands E X 0 q
+      → (o : Shown) × (showing (oneMaster L) X ≡ gives o) × (length (o .value) ≡ length es) × (fresh ≡ view (oneMaster L) (o .value))
   pub room : outRoom ≤ length out
   pub work-room : workRoom ≤ length w
   pub short : (ls : List Line) → judgedStandings (oneMaster L) (runnable .tree) es ≡ gives ls → length (fileOf ls) ≤ outRoom

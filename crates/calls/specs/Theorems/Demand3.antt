@@ -19,7 +19,7 @@ use Rattle.lines.specs.Theorems.PutAt.{put-front}
 use Rattle.lines.specs.Theorems.LineRules.{fields-at, rule-kind}
 use Rattle.lines.specs.Theorems.MasterRules.{unmarked-at}
 use Rattle.values.specs.Values.{Value}
-use Rattle.values.specs.Standings.{Standing}
+use Rattle.values.specs.Standings.{Standing, says, brings, isEdit, handsBack}
 use Rattle.values.specs.Theorems.Copies.{isCopy}
 use Rattle.runs.specs.Results.{gives}
 use Rattle.runs.specs.Programs.{Transformation}
@@ -27,7 +27,7 @@ use Rattle.runs.specs.Showing.{Shown}
 use Rattle.runs.specs.Grounds.{numberedFrom, lineOf, Ground, oneMaster, showing, view, standingFor, firstClash, handedBack, linesIn}
 use Rattle.runs.specs.Theorems.FreshView.{view-mark, one-unmarked}
 use Rattle.runs.specs.Theorems.Demand3 as rules
-use Rattle.runs.specs.Theorems.Demand3.{Accepted, Edited, Criterion, TextMarks}
+use Rattle.runs.specs.Theorems.Demand3.{Accepted, editAt, Edited, Criterion, TextMarks}
 use Rattle.runs.specs.Theorems.OneMaster.{one-after, one-demand3, one-again}
 use Rattle.runs.specs.Theorems.SameView.{same-formed, same-textMarks}
 use Rattle.runs.specs.Theorems.ViewLines.{Shows, view-shows, view-made, view-depth}
@@ -39,9 +39,9 @@ use Rattle.calls.specs.Theorems.Returned.{Returned, returned-writable}
 use Rattle.calls.specs.Demands.{numberOf, placeOf, written, FromProgram, FromMaster, Given, EditedLine, Acceptable}
 use Rattle.calls.specs.Demands.{Clashes, withEdit, HasEdits, SameLines, Answers, Demand3}
 use Rattle.calls.specs.Theorems.Demand12.{called-gives, called-stops}
-use Rattle.calls.specs.Theorems.ViewEdits.{zero-unmarked, edits-pass, pass-edits}
+use Rattle.calls.specs.Theorems.ViewEdits.{edits-pass, pass-edits}
 use Rattle.calls.specs.Theorems.ShownNumbers.{line-of, number-copy, copy-or-made, shown-number, handed-kind}
-use Rattle.calls.specs.Theorems.EditedLines.{Edits, rule-mark, marked-edits, edits-marked, edits-edit, edit-edits, brings-same, same-brings, edit-leaves}
+use Rattle.calls.specs.Theorems.EditedLines.{Edits, edits-marked, edited-edit, edit-edited, edit-says, edited-marks, says-same, same-says, edit-leaves}
 use Rattle.calls.specs.Theorems.ClashSearch.{unacceptable-clashes, acceptable-no-clash}
 
 -- a line that an unmarked master shows has no mark
@@ -123,37 +123,54 @@ module _ (master program edited out work : List ℕ) (given : Given master progr
 
   -- ## Edited lines: the demand's and the rules'
 
-  edits-at : (n i : ℕ) → EditedLine es n i → Edits ((lineAt es i) .mark)
-  edits-at n i e = marked-edits (lineAt es i) (rule-mark _ _ _ (rule-at i)) (e .marked)
-
-  -- a marked line comes from the master
-  from-master : (n i : ℕ) → EditedLine es n i → n ≡ programNumber → ⊥
+  -- an edited line has a mark, so it comes from the master
+  from-master : (n i : ℕ) → EditedLine fresh es n i → n ≡ programNumber → ⊥
   from-master n i e p =
       let q : FromProgram (lineAt fresh i) = sym (given .differs .number i) ∙ e .number ∙ p in
-      let u = zero-unmarked (lineAt es i) (given .differs .mark i q ∙ plain i) in
-      let m = e .marked in
-      let z : _≡_ {A = ℕ} 0 1 = cc in
-      omega arith
+      edits-marked (edited-marks (lineAt fresh i) (lineAt es i) (e .edit)) (given .differs .mark i q ∙ plain i)
 
-  line-edited : (n i : ℕ) → EditedLine es n i → Edited G o es n i
+  -- the fresh line of node n has the node's bytes
+  fresh-text : (n i : ℕ) → isCopy n (o .value) i ≡ true → (lineAt fresh i) .text ≡ (lineOf (G .lines) n) .text
+  fresh-text n i c = (view-shows G (o .value) n i c) .text
+
+  line-copy : (n i : ℕ) → EditedLine fresh es n i → isCopy n (o .value) i ≡ true
+  line-copy n i e = number-copy G (o .value) n i (sym (given .differs .number i) ∙ e .number) (from-master n i e)
+
+  line-edited : (n i : ℕ) → EditedLine fresh es n i → Edited G o es n i
   line-edited n i e =
-      (number-copy G (o .value) n i (sym (given .differs .number i) ∙ e .number) (from-master n i e), edits-edit _ _ _ (edits-at n i e))
+      let c = line-copy n i e in
+      (c, ap (λ (t : List ℕ). isEdit t ((lineAt es i) .mark) ((lineAt es i) .text)) (sym (fresh-text n i c)) ∙ edited-edit (lineAt fresh i) (lineAt es i) (e .edit))
 
-  edited-line : (n i : ℕ) → Edited G o es n i → EditedLine es n i
+  edited-line : (n i : ℕ) → Edited G o es n i → EditedLine fresh es n i
   edited-line n i e =
-      record { marked = edits-marked (lineAt es i) (edit-edits _ _ _ (e .1)); number = given .differs .number i ∙ (view-shows G (o .value) n i (e .0)) .number }
+      record {
+        edit = edit-edited (lineAt fresh i) (lineAt es i) (ap (λ (t : List ℕ). isEdit t ((lineAt es i) .mark) ((lineAt es i) .text)) (fresh-text n i (e .0)) ∙ e .1);
+        number = given .differs .number i ∙ (view-shows G (o .value) n i (e .0)) .number;
+      }
 
-  acceptable : (n : ℕ) → Criterion G o es n → Acceptable es (o .compared) n
+  edits-at : (n i : ℕ) → EditedLine fresh es n i → Edits ((lineAt es i) .mark)
+  edits-at n i e = edited-marks (lineAt fresh i) (lineAt es i) (e .edit)
+
+  -- what it brings for its node
+  edit-at : (n i : ℕ) → EditedLine fresh es n i → editAt G es n i ≡ says ((lineAt es i) .mark) ((lineAt es i) .text)
+  edit-at n i e =
+      ap (λ (t : List ℕ). brings t ((lineAt es i) .mark) ((lineAt es i) .text)) (sym (fresh-text n i (line-copy n i e))) ∙ edit-says (lineAt fresh i) (lineAt es i) (e .edit)
+
+  acceptable : (n : ℕ) → Criterion G o es n → Acceptable fresh es (o .compared) n
   acceptable n c =
       record {
-        same = λ i j p q. brings-same _ (lineAt es i) (lineAt es j) (edits-at n i p) (edits-at n j q) (c .alike i j (line-edited n i p) (line-edited n j q));
+        same = λ i j p q.
+            says-same (lineAt es i) (lineAt es j) (edits-at n i p) (edits-at n j q) (sym (edit-at n i p) ∙ c .alike i j (line-edited n i p) (line-edited n j q) ∙ edit-at n j q);
         uncompared = λ i p. c .uncompared i (line-edited n i p);
       }
 
-  criterion : (n : ℕ) → Acceptable es (o .compared) n → Criterion G o es n
+  criterion : (n : ℕ) → Acceptable fresh es (o .compared) n → Criterion G o es n
   criterion n a =
       record {
-        alike = λ i j p q. same-brings _ (lineAt es i) (lineAt es j) (a .same i j (edited-line n i p) (edited-line n j q));
+        alike = λ i j p q.
+            let v = edited-line n i p in
+            let w = edited-line n j q in
+            edit-at n i v ∙ same-says (lineAt es i) (lineAt es j) (a .same i j v w) ∙ sym (edit-at n j w);
         uncompared = λ i p. a .uncompared i (edited-line n i p);
       }
 
@@ -201,14 +218,20 @@ module _ (master program edited out work : List ℕ) (given : Given master progr
     back-at : (n : ℕ) → lineAt hs n ≡ lineOf (handedBack s (G .lines)) n
     back-at n = sym (line-of hs n) ∙ ap (λ (H : Ground). lineOf (H .lines) n) (one-after s ls)
 
-    has-edits : HasEdits ls es hs
+    others-back : (n : ℕ) → ((i : ℕ) → EditedLine fresh es n i → ⊥) → lineAt hs n ≡ lineAt ls n
+    others-back n none = back-at n ∙ law .others accepted n (λ i e. none i (edited-line n i e)) ∙ line-of ls n
+
+    has-edits : HasEdits ls fresh es hs
     has-edits =
         record {
           count = back .long;
           edits = λ n i e.
-              back-at n ∙ law .edited accepted n i (line-edited n i e) ∙ edit-leaves _ (lineOf (G .lines) n) (lineAt es i) (edits-at n i e)
-              ∙ ap (λ (l : Line). withEdit l (lineAt es i)) (line-of ls n);
-          others = λ n none. back-at n ∙ law .others accepted n (λ i e. none i (edited-line n i e)) ∙ line-of ls n;
+              back-at n ∙ law .edited accepted n i (line-edited n i e) ∙ ap (handsBack (lineOf (G .lines) n)) (edit-at n i e)
+              ∙ edit-leaves (lineOf (G .lines) n) (lineAt es i) (edits-at n i e) ∙ ap (λ (l : Line). withEdit l (lineAt es i)) (line-of ls n);
+          others = others-back;
+          unedited = λ n none.
+              let same = others-back n none in
+              (ap (λ (l : Line). l .mark) same ∙ unmarked-at ls (rule-unmarked ls (master-is .rule)) n, ap (λ (l : Line). l .text) same);
         }
 
     -- ## Shown again
@@ -270,12 +293,12 @@ module _ (master program edited out work : List ℕ) (given : Given master progr
   -- ## Refused
 
   refused-at : (numberOf r ≡ 0 → ⊥)
-      → (numberOf r ≡ 11) × Clashes es (o .compared) (placeOf r) × ((n : ℕ) → n < placeOf r → Clashes es (o .compared) n → ⊥)
+      → (numberOf r ≡ 11) × Clashes fresh es (o .compared) (placeOf r) × ((n : ℕ) → n < placeOf r → Clashes fresh es (o .compared) n → ⊥)
   refused-at h =
       by-clash (λ a. absurd (h (ap numberOf (done a)))) λ n f.
       let least = law .refused n f in
       rw (clashed n f)
-      (refl, unacceptable-clashes es (o .compared) n (λ a. least .0 (criterion n a)), λ m l. acceptable-no-clash es (o .compared) m (acceptable m (least .1 m l)))
+      (refl, unacceptable-clashes fresh es (o .compared) n (λ a. least .0 (criterion n a)), λ m l. acceptable-no-clash fresh es (o .compared) m (acceptable m (least .1 m l)))
 
   answers : Answers showCall master program edited out work given (putBackCall master program edited out work)
   answers =

@@ -91,7 +91,7 @@ unmarked-zero : (l : Line) → isMarked l ≡ false → l .mark ≡ untouchedMar
 unfolding isMarked
 unmarked-zero l h = eqb-true (l .mark) untouchedMark (not-false _ h)
 
-pub zero-unmarked : (l : Line) → l .mark ≡ untouchedMark → isMarked l ≡ false
+zero-unmarked : (l : Line) → l .mark ≡ untouchedMark → isMarked l ≡ false
 unfolding isMarked
 zero-unmarked l h = rw h
 

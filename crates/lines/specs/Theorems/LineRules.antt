@@ -80,6 +80,16 @@ small-kind kind mark text h = go (eqb kind 1) (eqb kind 2) refl refl h
         (omega arith, omega arith)
     go false false e f q = never q
 
+-- "Mark 00 untouched, 01 changed, 02 deleted": the form has no other
+pub rule-mark : (kind mark : ℕ) (text : List ℕ) → kindRule kind mark text ≡ true → mark ≤ deletedMark
+unfolding kindRule
+rule-mark kind mark text h = go (eqb kind 1) (isElement kind) h
+  where
+    go : (a b : Bool) → cond a (leb mark deletedMark) (cond b (not (eqb mark changedMark) && (leb mark deletedMark && isTag text)) false) ≡ true → mark ≤ deletedMark
+    go true b q = leb-true mark deletedMark q
+    go false true q = leb-true mark deletedMark (and-left (leb mark deletedMark) (isTag text) (and-right (not (eqb mark changedMark)) _ q))
+    go false false q = never q
+
 -- what a kind asks of the bytes it asks without a mark too
 pub rule-without-mark : (kind mark : ℕ) (text : List ℕ) → kindRule kind mark text ≡ true → kindRule kind untouchedMark text ≡ true
 unfolding kindRule

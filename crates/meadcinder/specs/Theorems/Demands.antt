@@ -5,10 +5,9 @@ use mathlib.Core.List.{List}
 use Prim.Native.Nat.{ℕ}
 use Rattle.lines.specs.Nodes.{Line, nodes}
 use Rattle.runs.specs.Results.{gives}
-use Rattle.runs.specs.Grounds.{oneMaster, view}
 use Rattle.calls.specs.Judging.{judgedMaster, judgedShow, judgedPutBack}
 use Rattle.calls.specs.Outcomes.{showCall}
-use Rattle.calls.specs.Demands.{numberOf, written, RefusesRightly, WritesRightly, Given, Answers, SameLines}
+use Rattle.calls.specs.Demands.{numberOf, written, RefusesRightly, WritesRightly, Given, freshLines, Answers, SameLines}
 use Rattle.calls.specs.Theorems.Demand12 as calls
 use Rattle.calls.specs.Theorems.Demand3 as carried
 use Rattle.calls.specs.Sweeping.{enoughForBoth, sweepCall}
@@ -39,7 +38,7 @@ module _ (master program edited out : List ℕ) (left : PackedOutcome) (puts : P
         answers = a;
         again = λ done out₂ room shown s. (
           subst (λ z. numberOf z ≡ 0) (sym (s .reads)) (a .succeeds done out₂ ownWork room),
-          subst (λ z. SameLines (view (oneMaster (given .lines)) (given .shown .value)) (nodes (written (asRead left))) (nodes (written z))) (sym (s .reads))
+          subst (λ z. SameLines (freshLines given) (nodes (written (asRead left))) (nodes (written z))) (sym (s .reads))
               (a .again done out₂ ownWork room),
         );
       }

@@ -38,7 +38,7 @@ use Rattle.paper.specs.Theorems.Lines.{marksIn, sequence-view}
 use Rattle.paper.specs.Theorems.Masters.{AllNumbering, right-numbering, master-grown}
 use Rattle.paper.specs.Theorems.Printing.{InOrder, print-read, print-unlocked}
 use Rattle.paper.specs.Theorems.Orders.{forest-ordered, master-ordered, same-ordered, handed-ordered}
-use Rattle.paper.specs.Agreement.{Formed, ShownAlike, PassedTen, clashOf, handedBackBy, putBackBy, PuttingBackAgrees}
+use Rattle.paper.specs.Agreement.{Formed, ShownAlike, PassedTen, clashOf, handedBackBy, putBackBy, countedView, PuttingBackAgrees}
 use Rattle.paper.specs.Theorems.Alike.{PutAlike, bothPut, bothFail, strict-alike}
 use Rattle.paper.specs.Theorems.Suspects.{clash-suspect}
 
@@ -119,20 +119,23 @@ putting-back-agrees entries X ls edited o J =
     record {
       accepted = whole (strict-alike entries X ls edited o J);
       refused = torn (strict-alike entries X ls edited o J);
-      printed = strict-yields (inPaper X) [] (sequence ls) (sequence edited);
+      printed = strict-yields (inPaper X) [] (sequence ls) (sequence (countedView ls o edited));
       failing = fails (strict-alike entries X ls edited o J);
       apart = λ r p n c. clash-suspect entries X ls edited o J n r p (fault-least (standingFor (oneMaster ls) X edited) 0 (numberedFrom 0 ls) (one-rising 0 ls) n c .0);
     }
   where
-    whole : PutAlike strictGuard X ls edited → clashOf X ls edited ≡ Faultless
-        → (S : Sequence) × (putBackBy strictGuard X ls edited ≡ got (S, [])) × (handedBackBy X ls edited ≡ paperLines (kindsIn ls) S)
+    whole : PutAlike strictGuard X ls edited o → clashOf X ls edited ≡ Faultless
+        → (S : Sequence) × (putBackBy strictGuard X ls (countedView ls o edited) ≡ got (S, [])) × (handedBackBy X ls edited ≡ paperLines (kindsIn ls) S)
     whole (bothPut S p q c) h = (S, p, sym (handed-read-back entries X ls edited o J h) ∙ ap (paperLines (kindsIn ls)) (sym q) ∙ print-unlocked (kindsIn ls) S)
     whole (bothFail p n c) h = let z : _≡_ {A = ℕ} 0 1 = cc in absurd (omega arith)
 
-    torn : PutAlike strictGuard X ls edited → (n : ℕ) → clashOf X ls edited ≡ Fault n → putBackBy strictGuard X ls edited ≡ fail
+    torn : PutAlike strictGuard X ls edited o → (n : ℕ) → clashOf X ls edited ≡ Fault n → putBackBy strictGuard X ls (countedView ls o edited) ≡ fail
     torn (bothPut S p q c) n h = let z : _≡_ {A = ℕ} 0 1 = cc in absurd (omega arith)
     torn (bothFail p m c) n h = p
 
-    fails : PutAlike strictGuard X ls edited → putBackBy guard X ls edited ≡ fail → (n : ℕ) × (clashOf X ls edited ≡ Fault n)
-    fails (bothPut S p q c) h = let r = strict-yields (inPaper X) [] (sequence ls) (sequence edited) (S, []) p in let z : _≡_ {A = ℕ} 0 1 = cc in absurd (omega arith)
+    fails : PutAlike strictGuard X ls edited o → putBackBy guard X ls (countedView ls o edited) ≡ fail → (n : ℕ) × (clashOf X ls edited ≡ Fault n)
+    fails (bothPut S p q c) h =
+        let r = strict-yields (inPaper X) [] (sequence ls) (sequence (countedView ls o edited)) (S, []) p in
+        let z : _≡_ {A = ℕ} 0 1 = cc in
+        absurd (omega arith)
     fails (bothFail p n c) h = (n, c)

@@ -45,12 +45,13 @@ use Rattle.paper.specs.Theorems.Guards.{anyStanding, everyNumber, strict
 use Rattle.paper.specs.Theorems.Lines.{Beside, unlockedState, unlocked, InkedAll, sequence-drawn, drawn-brush, marksIn}
 use Rattle.paper.specs.Theorems.Masters.{AllNumbering, right-numbering, Grown, master-grown, paint-unmarked, gathered-whole, gathered-outside}
 use Rattle.paper.specs.Theorems.Views.{FineAlong, along-fine, fine-along, along-no-clash, Permitted, AllPermitted, Read, edited-read, handed-read}
-use Rattle.paper.specs.Agreement.{PassedTen, clashOf, handedBackBy, putBackBy}
+use Rattle.paper.specs.Agreement.{PassedTen, clashOf, handedBackBy, putBackBy, countedView}
 
 -- both go through, with the same texts and marks (`non` read as untouched); or the paper fails and there is a clash
-pub data PutAlike (g : Guard) (X : Transformation) (ls edited : List Line) : Type 0 where
-  bothPut : (S : Sequence) → putBackBy g X ls edited ≡ got (S, []) → unlocked S ≡ sequence (handedBackBy X ls edited) → clashOf X ls edited ≡ Faultless → PutAlike g X ls edited
-  bothFail : putBackBy g X ls edited ≡ fail → (n : ℕ) → clashOf X ls edited ≡ Fault n → PutAlike g X ls edited
+pub data PutAlike (g : Guard) (X : Transformation) (ls edited : List Line) (o : Shown) : Type 0 where
+  bothPut : (S : Sequence) → putBackBy g X ls (countedView ls o edited) ≡ got (S, []) → unlocked S ≡ sequence (handedBackBy X ls edited)
+      → clashOf X ls edited ≡ Faultless → PutAlike g X ls edited o
+  bothFail : putBackBy g X ls (countedView ls o edited) ≡ fail → (n : ℕ) → clashOf X ls edited ≡ Fault n → PutAlike g X ls edited o
 
 pub any-permitted : (v : Value) (ss : List Standing) → AllPermitted anyStanding v ss
 any-permitted [] ss = tt
@@ -140,11 +141,12 @@ module _ (entries : List Entry) (X : Transformation) (ls edited : List Line) (o 
         let numbers = subst⁻¹ AllNumbering value-flat (right-numbering look 0 (backs .g) [] (backs .right) tt) in
         edited-read (oneMaster ls) 0 0 (o .value) edited numbers (J .same) (J .free) (J .formed)
 
-    pub edited-brush : sequence edited ≡ brush look (backs .g) ups
+    pub edited-brush : sequence (countedView ls o edited) ≡ brush look (backs .g) ups
     edited-brush =
-        sequence-drawn look (backs .g) edited (backs .right) (subst (λ (v : Value). Beside look v edited) (backs .flatIs) (edited-lines .beside))
+        let ws = countedView ls o edited in
+        sequence-drawn look (backs .g) ws (backs .right) (subst (λ (v : Value). Beside look v ws) (backs .flatIs) (edited-lines .beside))
         ∙ drawn-brush look (λ u. u) (λ S. S) refl (λ t u o S. refl) (λ t w o K S. refl) 0 (backs .g)
-        [] edited ups (backs .right) (subst (λ (v : Value). InkedAll look (λ u. u) v edited ups) value-flat (edited-lines .inked))
+        [] ws ups (backs .right) (subst (λ (v : Value). InkedAll look (λ u. u) v ws ups) value-flat (edited-lines .inked))
 
     pub put-ends : (ss : List Standing) → FineAlong look permit (o .value) ss
         → Ends look permit [] none (masterTrees .trees) (putBack look X [] (whole all) ss [])
@@ -173,7 +175,7 @@ module _ (entries : List Entry) (X : Transformation) (ls edited : List Line) (o 
         (subst (λ (v : Value). InkedAll look unlockedState v (handedBackBy X ls edited) rs) (e ∙ sym (append-nil (flat 0 f))) (h .1)))
 
     ended : Ends look permit [] none (masterTrees .trees) (putBack look X [] (whole all) ups [])
-        (backward g (inPaper X) [] (paint look noMarks (masterTrees .trees)) (brush look (backs .g) ups)) (said [] o ups []) → PutAlike g X ls edited
+        (backward g (inPaper X) [] (paint look noMarks (masterTrees .trees)) (brush look (backs .g) ups)) (said [] o ups []) → PutAlike g X ls edited o
     unfolding gatheredSlots
     ended (went r K _) =
         bothPut (brush look (masterTrees .trees) rs) (rw (master-paint, edited-brush) r) (handed (masterTrees .trees) (masterTrees .right) (masterTrees .flatIs) (went-along ups K))
@@ -184,12 +186,12 @@ module _ (entries : List Entry) (X : Transformation) (ls edited : List Line) (o 
         bothFail (rw (master-paint, edited-brush) r) (m .0) (m .1)
 
     -- where the view's standings are permitted
-    pub guarded-alike : AllPermitted permit (o .value) ups → PutAlike g X ls edited
+    pub guarded-alike : AllPermitted permit (o .value) ups → PutAlike g X ls edited o
     guarded-alike P = ended (put-ends ups (edited-lines .fine permit P))
 
 module _ (entries : List Entry) (X : Transformation) (ls edited : List Line) (o : Shown) (J : PassedTen entries X ls edited o) where
   -- with the strict guard the paper does what the rules do
-  pub strict-alike : PutAlike strictGuard X ls edited
+  pub strict-alike : PutAlike strictGuard X ls edited o
   strict-alike =
       guarded-alike entries X ls edited o J anyStanding everyNumber strictGuard (strict-guarding (lookupIn (numberedFrom 0 ls))) (λ n h. refl)
       (any-permitted (o .value) (brought (lookupIn (numberedFrom 0 ls)) (o .value) edited))

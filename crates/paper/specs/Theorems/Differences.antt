@@ -9,9 +9,9 @@ use Rattle.lines.specs.Nodes.{Line, isElement, isMarked}
 use Rattle.lines.specs.Masters.{depthAfter, placed, boundsFrom, masterBounds, unmarked}
 use Rattle.lines.specs.Texts.{sameText, agree}
 use Rattle.lines.specs.Verdicts.{firstFrom}
-use Rattle.lines.specs.Views.{sameHead, sameLine, differenceFrom, firstDifference, programMarked, programMark}
+use Rattle.lines.specs.Views.{sameHead, sameLine, differenceFrom, firstDifference, programMarked, programMark, markCounted, countedLines}
 use Rattle.values.specs.Values.{among, elementOf, bytesOf, isFrom, masterNumber, isTop, noTop, startsTop, lowered, raised, toFirst, items, shallow, withinBounds}
-use Rattle.values.specs.Standings.{sort, newText, isUntouched, isClash, sameStanding, _⋓_, fitted, allOver, merged, gathered, brings, handsBack}
+use Rattle.values.specs.Standings.{sort, newText, isUntouched, isClash, sameStanding, _⋓_, fitted, allOver, merged, gathered, says, brings, handsBack}
 use Rattle.runs.specs.declared.stop.Stop.the-variants.{Size}
 use Rattle.runs.specs.Results.{stops}
 use Rattle.runs.specs.Programs.{equals, Transformation, source, nothing, text, slot, contents, within, beside, choose, bind, compares}
@@ -41,6 +41,9 @@ textLine mark number bytes = record { depth = 0; kind = 1; mark = mark; number =
 abbrev one : List Line
 one = textLine 0 0 hi ∷ []
 
+abbrev two : List Line
+two = textLine 0 0 hi ∷ textLine 0 1 hi ∷ []
+
 -- the text, if it is "hi"
 abbrev asks : Transformation
 asks = choose 0 (compares 1 equals (text 2 hi)) (source 3) (nothing 4)
@@ -49,67 +52,83 @@ asks = choose 0 (compares 1 equals (text 2 hi)) (source 3) (nothing 4)
 abbrev asksBeside : Transformation
 asksBeside = beside 5 asks (source 6)
 
+-- the fresh lines
+abbrev freshOf : Transformation → List Line → List Line
+freshOf tree master = view (oneMaster master) (valueOf (showing (oneMaster master) tree))
+
 -- ## Views put back
 
 record Case : Type 0 where
   tree : Transformation
   master : List Line
   edited : List Line
-  printed : May Sequence  -- the paper's updated source, with Fig. 7's guard
+  written : May Sequence  -- the paper's updated source of the view as written, with Fig. 7's guard
+  printed : May Sequence  -- of the view with the marks that count, with that guard
   strict : May Sequence  -- with the strict one
   clash : Verdict  -- the rules' first clash
-  marks : List ℕ  -- of the lines that they hand back
+  returned : List Line  -- the lines that they hand back
 
-abbrev case : Transformation → List Line → List Line → May Sequence → May Sequence → Verdict → List ℕ → Case
-case tree master edited printed strict clash marks =
-    record { tree = tree; master = master; edited = edited; printed = printed; strict = strict; clash = clash; marks = marks }
+-- all marks count as they are written
+abbrev case : Transformation → List Line → List Line → May Sequence → May Sequence → Verdict → List Line → Case
+case tree master edited printed strict clash returned =
+    record { tree = tree; master = master; edited = edited; written = printed; printed = printed; strict = strict; clash = clash; returned = returned }
+
+-- a line of `one` was saved as it was: the view is accepted by either guard and by the rules
+abbrev saved : Transformation → List Line → May Sequence → May Sequence → List Line → Case
+saved tree edited written accepted returned =
+    record { tree = tree; master = one; edited = edited; written = written; printed = accepted; strict = accepted; clash = Fine; returned = returned }
 
 abbrev hiIs : Updating → May Sequence
 hiIs u = got (str hi u (src 0) none)
 
 -- a compared text deleted
 abbrev compared-deleted : Case
-compared-deleted = case asks one (textLine 2 0 hi ∷ []) (hiIs del) fail (Fault 0) (0 ∷ [])
+compared-deleted = case asks one (textLine 2 0 hi ∷ []) (hiIs del) fail (Fault 0) one
 
--- a compared text changed to its own text
+-- a compared text marked changed, with its own text: as written Fig. 7 lets it pass as `mod`, but the mark counts as 00
 abbrev compared-same : Case
-compared-same = case asks one (textLine 1 0 hi ∷ []) (hiIs mod′) fail (Fault 0) (0 ∷ [])
+compared-same = saved asks (textLine 1 0 hi ∷ []) (hiIs mod′) (hiIs non) one
+
+-- one copy marked changed, with its own text, the other changed to a new one: as written `mg` fails on two `mod`, but the first mark counts as 00
+abbrev saved-copy : Case
+saved-copy = saved (beside 0 (source 1) (source 2)) (textLine 1 0 hi ∷ textLine 1 0 lo ∷ []) fail (got (str lo mod′ (src 0) none)) (textLine 1 0 lo ∷ [])
 
 -- deleted in the copy that was compared: Fig. 7 lets it pass
 abbrev compared-copy : Case
-compared-copy = case asksBeside one (textLine 2 0 hi ∷ textLine 0 0 hi ∷ []) (hiIs del) fail (Fault 0) (0 ∷ [])
+compared-copy = case asksBeside one (textLine 2 0 hi ∷ textLine 0 0 hi ∷ []) (hiIs del) fail (Fault 0) one
 
 -- deleted in the other copy: it does not
 abbrev other-copy : Case
-other-copy = case asksBeside one (textLine 0 0 hi ∷ textLine 2 0 hi ∷ []) fail fail (Fault 0) (0 ∷ [])
+other-copy = case asksBeside one (textLine 0 0 hi ∷ textLine 2 0 hi ∷ []) fail fail (Fault 0) one
 
 -- `non` stays in the paper's result
 abbrev non-left : Case
-non-left = case asks one one (hiIs non) (hiIs non) Fine (0 ∷ [])
+non-left = case asks one one (hiIs non) (hiIs non) Fine one
 
 -- two conflicts: `fail` has no place, the clash is that of the least number
 abbrev two-conflicts : Case
 two-conflicts =
-    case (beside 0 (source 1) (source 2)) (textLine 0 0 hi ∷ textLine 0 1 hi ∷ [])
-    (textLine 1 0 lo ∷ textLine 2 1 hi ∷ textLine 2 0 hi ∷ textLine 1 1 lo ∷ []) fail fail (Fault 0) (0 ∷ 0 ∷ [])
+    case (beside 0 (source 1) (source 2)) two (textLine 1 0 lo ∷ textLine 2 1 hi ∷ textLine 2 0 hi ∷ textLine 1 1 lo ∷ []) fail fail (Fault 0) two
 
 abbrev cases : List Case
-cases = compared-deleted ∷ compared-same ∷ compared-copy ∷ other-copy ∷ non-left ∷ two-conflicts ∷ []
+cases = compared-deleted ∷ compared-same ∷ saved-copy ∷ compared-copy ∷ other-copy ∷ non-left ∷ two-conflicts ∷ []
 
 abbrev Outcome : Type 0
-Outcome = May Sequence × May Sequence × Verdict × List ℕ
+Outcome = May Sequence × May Sequence × May Sequence × Verdict × List Line
 
 outcome : Case → Outcome
-outcome c = (
-  putBackBy guard (c .tree) (c .master) (c .edited) >>= λ r. got (r .0),
-  putBackBy strictGuard (c .tree) (c .master) (c .edited) >>= λ r. got (r .0),
-  clashOf (c .tree) (c .master) (c .edited),
-  map (λ l. l .mark) (handedBackBy (c .tree) (c .master) (c .edited)),
-)
+outcome c =
+    let counts = countedLines (freshOf (c .tree) (c .master)) (c .edited) in (
+      putBackBy guard (c .tree) (c .master) (c .edited) >>= λ r. got (r .0),
+      putBackBy guard (c .tree) (c .master) counts >>= λ r. got (r .0),
+      putBackBy strictGuard (c .tree) (c .master) counts >>= λ r. got (r .0),
+      clashOf (c .tree) (c .master) (c .edited),
+      handedBackBy (c .tree) (c .master) (c .edited),
+    )
 
-all-put : map outcome cases ≡ map (λ c. (c .printed, c .strict, c .clash, c .marks)) cases
-unfolding outcome backward forward inPaper sequence itemsAt firstClash standingFor standing brought brings handedBack linesIn numberedFrom
-    lineOf whole showing show putBack valueIn oneTop oneElement oneText bounded inTurn verdict mergedInto untouchedSlots gatheredSlots valueOf
+all-put : map outcome cases ≡ map (λ c. (c .written, c .printed, c .strict, c .clash, c .returned)) cases
+unfolding outcome backward forward inPaper sequence itemsAt firstClash standingFor standing brought brings says markCounted countedLines handedBack linesIn numberedFrom
+    lineOf whole showing shownLine view show putBack valueIn oneTop oneElement oneText bounded inTurn verdict mergedInto untouchedSlots gatheredSlots valueOf
     saysYes inside overItems elementOf bytesOf isFrom masterNumber isTop noTop startsTop lowered raised toFirst items shallow withinBounds sort
     newText isUntouched isClash sameStanding _⋓_ fitted allOver merged gathered handsBack isElement sameText agree
 all-put = refl
@@ -148,7 +167,7 @@ keptBack =
 judged : Kept → May Sequence × Verdict × Verdict
 judged c = (
   putBackBy guard (c .tree) (boxed d) (c .edited) >>= λ r. got (r .0),
-  firstDifference (c .edited) (view (oneMaster (boxed d)) (valueOf (showing (oneMaster (boxed d)) (c .tree)))),
+  firstDifference (c .edited) (freshOf (c .tree) (boxed d)),
   programMark (c .edited),
 )
 
@@ -202,7 +221,7 @@ letThrough : Passed → May Sequence × May Sequence × Verdict
 letThrough c = (
   putBackBy guard (c .tree) (c .master) (c .edited) >>= λ r. got (r .0),
   putBackBy strictGuard (c .tree) (c .master) (c .edited) >>= λ r. got (r .0),
-  firstDifference (c .edited) (view (oneMaster (c .master)) (valueOf (showing (oneMaster (c .master)) (c .tree)))),
+  firstDifference (c .edited) (freshOf (c .tree) (c .master)),
 )
 
 any-view : map letThrough letPass ≡ map (λ c. (c .printed, c .printed, c .nine)) letPass

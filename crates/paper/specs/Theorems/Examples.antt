@@ -6,8 +6,9 @@ use Rattle.lines.specs.declared.verdict.Verdict.the-variants.{Fine, Fault}
 use Rattle.lines.specs.Entries.{Entry, slotOf, textOf}
 use Rattle.lines.specs.Nodes.{Line, isElement}
 use Rattle.lines.specs.Texts.{sameText, agree}
+use Rattle.lines.specs.Views.{markCounted}
 use Rattle.values.specs.Values.{among, elementOf, bytesOf, isFrom, masterNumber, isTop, noTop, startsTop, lowered, raised, toFirst, items, shallow, withinBounds}
-use Rattle.values.specs.Standings.{sort, newText, isUntouched, isClash, sameStanding, _⋓_, fitted, allOver, merged, gathered, brings, handsBack}
+use Rattle.values.specs.Standings.{sort, newText, isUntouched, isClash, sameStanding, _⋓_, fitted, allOver, merged, gathered, says, brings, handsBack}
 use Rattle.runs.specs.Results.{gives}
 use Rattle.runs.specs.Programs.{equals, Transformation, source, nothing, text, tag, slot, contents, within, andThen, beside, each, choose, bind, compares, tagged}
 use Rattle.runs.specs.Reading.{operations, makes, below, transformationAt, readIn, readProgram}
@@ -219,7 +220,7 @@ by-the-rules : (clashOf tens oneTen (line 0 1 1 0 eleven ∷ line 0 1 0 0 ten �
     × (clashOf tens oneTen (line 0 1 0 0 ten ∷ line 0 1 1 0 eleven ∷ []) ≡ Fault 0)
     × (clashOf bibTree books (bibLines 1 webDatabase (bookLines 0 database)) ≡ Fine)
     × (handedBackBy bibTree books (bibLines 1 webDatabase (bookLines 0 database)) ≡ line 0 2 0 0 bib ∷ bookLines 1 webDatabase)
-unfolding firstClash standingFor standing brought brings handedBack linesIn numberedFrom lineOf whole showing show putBack
+unfolding firstClash standingFor standing brought brings says markCounted handedBack linesIn numberedFrom lineOf whole showing show putBack
     valueIn oneTop oneElement oneText bounded inTurn verdict mergedInto untouchedSlots gatheredSlots valueOf saysYes inside
     overItems elementOf bytesOf isFrom masterNumber isTop noTop startsTop lowered raised toFirst items shallow withinBounds sort
     newText isUntouched isClash sameStanding _⋓_ fitted allOver merged gathered handsBack isElement sameText agree

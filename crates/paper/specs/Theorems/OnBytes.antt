@@ -29,8 +29,8 @@ use Rattle.paper.specs.Data.{Sequence, fail, got}
 use Rattle.paper.specs.Operators.{Guard, guard}
 use Rattle.paper.specs.Strict.{strictGuard}
 use Rattle.paper.specs.Lines.{paperLines, kindsIn}
-use Rattle.paper.specs.Calls.{Whole, OnPaper, shownByPaper, putBackByPaper, ShownAsPaper, ShowsAsPaper, PutBackAsPaper, PutsBackAsPaper}
-use Rattle.paper.specs.Agreement.{Formed, ShownAlike, PassedTen, PuttingBackAgrees, clashOf, handedBackBy, putBackBy}
+use Rattle.paper.specs.Calls.{Whole, OnPaper, shownByPaper, ViewOnPaper, putBackByPaper, ShownAsPaper, ShowsAsPaper, PutBackAsPaper, PutsBackAsPaper}
+use Rattle.paper.specs.Agreement.{Formed, ShownAlike, PassedTen, PuttingBackAgrees, clashOf, handedBackBy, putBackBy, countedView}
 use Rattle.paper.specs.Theorems.Adequacy.{showing-agrees, master-read, view-read, putting-back-agrees}
 
 -- ## What was judged is what the agreements ask
@@ -59,6 +59,10 @@ module _ (master program : List ℕ) (X : Transformation) (p : judgedProgram pro
   shown-alike putting ls m =
       let M = master-passed putting master ls m in
       rw (M .holds .lines) (showing-agrees (entries program) X ((program-passed program X p) .read) ls (M .holds .few) (holds-formed master ls (M .holds)) (M .bounds))
+
+  shown-lines : (putting : Bool) (ls : List Line) → judgedMaster putting master ≡ gives ls → (o : Shown) → showing (oneMaster ls) X ≡ gives o
+      → ShownAlike ls (gives o) (shownByPaper X master)
+  shown-lines putting ls m o shows = subst (λ (x : Result Stop Shown). ShownAlike ls x (shownByPaper X master)) shows (shown-alike putting ls m)
 
   pub passed-ten : (edited : List ℕ) (ls : List Line) → judgedMaster true master ≡ gives ls → (o : Shown) → showing (oneMaster ls) X ≡ gives o
       → (es : List Line) → judgedView (view (oneMaster ls) (o .value)) edited ≡ gives es → PassedTen (entries program) X ls es o
@@ -95,8 +99,7 @@ shown-done : (master program : List ℕ) (vs : List Line) → judgedShow master 
 shown-done master program vs h =
     let s = show-passed master program vs h in
     let M = master-passed false master (s .ls) (s .master-judged) in
-    let a = subst (λ (x : Result Stop Shown). ShownAlike (s .ls) x (shownByPaper (s .tree) master)) (s .shows)
-    (shown-alike master program (s .tree) (s .program-judged) false (s .ls) (s .master-judged)) in
+    let a = shown-lines master program (s .tree) (s .program-judged) false (s .ls) (s .master-judged) _ (s .shows) in
     (given master program (s .tree) (s .program-judged) false (s .ls) (s .master-judged), a .0, a .1, sym (s .lines) ∙ a .2 ∙ kinds-held master (s .ls) (M .holds) (a .0))
 
 show-stopped : (master program : List ℕ) → Refusing (λ n. n ≡ 6 → Stops master program) (judgedShow master program)
@@ -125,16 +128,15 @@ shows-as-paper master program out work =
 -- 0
 abbrev HandsBack : List ℕ → List ℕ → List ℕ → List Line → Type 0
 HandsBack master program edited hs =
-    (g : OnPaper master program)
-    × Whole master edited
+    (v : ViewOnPaper master program edited)
     × (S : Sequence)
-    × (putBackByPaper strictGuard (g .tree) master edited ≡ got (S, []))
-    × (putBackByPaper guard (g .tree) master edited ≡ got (S, []))
+    × (putBackByPaper strictGuard v ≡ got (S, []))
+    × (putBackByPaper guard v ≡ got (S, []))
     × (hs ≡ paperLines (kindsIn (nodes master)) S)
 
 -- 11
 abbrev Fails : List ℕ → List ℕ → List ℕ → Type 0
-Fails master program edited = (g : OnPaper master program) × Whole master edited × (putBackByPaper strictGuard (g .tree) master edited ≡ fail)
+Fails master program edited = (v : ViewOnPaper master program edited) × (putBackByPaper strictGuard v ≡ fail)
 
 module _ (master program edited : List ℕ) (X : Transformation) (p : judgedProgram program ≡ gives X) (ls : List Line) (m : judgedMaster true master ≡ gives ls)
     (o : Shown) (shows : showing (oneMaster ls) X ≡ gives o) (es : List Line) (v : judgedView (view (oneMaster ls) (o .value)) edited ≡ gives es) where
@@ -147,20 +149,25 @@ module _ (master program edited : List ℕ) (X : Transformation) (p : judgedProg
   agrees : PuttingBackAgrees X ls es o
   agrees = putting-back-agrees (entries program) X ls es o (passed-ten master program X p edited ls m o shows es v)
 
-  -- the paper's answer is that of the lines
-  on-lines : (g : Guard) → putBackByPaper g X master edited ≡ putBackBy g X ls es
+  fresh : ShownAlike ls (gives o) (shownByPaper X master)
+  fresh = shown-lines master program X p true ls m o shows
+
+  abbrev onPaper : ViewOnPaper master program edited
+  onPaper = record { given = given master program X p true ls m; shown = fresh .0; shows = fresh .1; whole = view-whole }
+
+  -- the paper's answer is that of the lines, since what it shows are the fresh ones
+  on-lines : (g : Guard) → putBackByPaper g onPaper ≡ putBackBy g X ls (countedView ls o es)
   on-lines g =
       let M = master-passed true master ls m in
       let W = view-passed (view (oneMaster ls) (o .value)) edited es v in
-      rw (M .holds .lines, W .holds .lines)
+      rw (M .holds .lines, W .holds .lines, fresh .2)
 
   standings-done : (hs : List Line) → judgedStandings (oneMaster ls) X es ≡ gives hs → HandsBack master program edited hs
   standings-done hs h =
       let s = standings-passed (oneMaster ls) X es hs h in
       let a = agrees .accepted (s .0) in
       let M = master-passed true master ls m in (
-        given master program X p true ls m,
-        view-whole,
+        onPaper,
         a .0,
         on-lines strictGuard ∙ a .1,
         on-lines guard ∙ agrees .printed (a .0, []) (a .1),
@@ -174,7 +181,7 @@ module _ (master program edited : List ℕ) (X : Transformation) (p : judgedProg
     where
       go : (c : Verdict) → clashOf X ls es ≡ c → (keeps 11 c >> gives (handedBackBy X ls es)) ≡ stops r → Fails master program edited
       go Faultless e h = absurd (gives-refusing (λ _. ⊥) (handedBackBy X ls es) r h)
-      go (Fault n) e h = (given master program X p true ls m, view-whole, on-lines strictGuard ∙ agrees .refused n e)
+      go (Fault n) e h = (onPaper, on-lines strictGuard ∙ agrees .refused n e)
 
 put-back-done : (master program edited : List ℕ) (hs : List Line) → judgedPutBack master program edited ≡ gives hs → HandsBack master program edited hs
 put-back-done master program edited hs h =
@@ -218,7 +225,7 @@ puts-back-as-paper master program edited out work =
     (λ hs _ j.
     let a = put-back-done master program edited hs j in
     record {
-      done = λ _. (a .0, a .1, a .2, a .3, a .4, put-front out (fileOf hs) ∙ ap fileOf (a .5));
+      done = λ _. (a .0, a .1, a .2, a .3, put-front out (fileOf hs) ∙ ap fileOf (a .4));
       stopped = λ z. absurd (omega arith);
       clashed = λ z. absurd (omega arith);
       others = omega arith;

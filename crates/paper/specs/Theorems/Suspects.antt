@@ -1,6 +1,6 @@
 -- Where the paper with Fig. 7's guard accepts, every clash of the rules has a suspect line of its own node.
 use mathlib.Core.Path.{_≡_, refl, sym, ap, subst⁻¹, _∙_}
-use mathlib.Core.Bool.{Bool, true, false, cond, _&&_, _||_, not}
+use mathlib.Core.Bool.{Bool, true, false, _&&_, _||_, not}
 use mathlib.Core.List.{List, [], _∷_, _++_, append-assoc}
 use mathlib.Core.Logic.{_⊎_, inl, inr}
 use Prim.Native.Nat.{ℕ, suc}
@@ -9,14 +9,13 @@ use lib.Dec.{eqb}
 use lib.ListN.{length, drop}
 use borrow.Author.Tests.{eqb-true, eq-eqb, not-false}
 use Rattle.lines.specs.Entries.{Entry}
-use Rattle.lines.specs.Nodes.{Line, changedMark, deletedMark, lineAt}
-use Rattle.lines.specs.Texts.{sameText}
+use Rattle.lines.specs.Nodes.{Line, deletedMark, lineAt}
 use Rattle.values.specs.Values.{Origin, master, program, Value, Lookup, bytesOf, isFrom, among}
-use Rattle.values.specs.Standings.{Standing, untouched, changed, deleted, sort, isClash, _⋓_, firstOf, restOf, gathered, brings}
-use Rattle.lines.specs.Theorems.Bools.{and-parts, neither, or-right}
-use Rattle.values.specs.Theorems.MergeLaws.{sameText-sound}
+use Rattle.values.specs.Standings.{Standing, sort, isClash, _⋓_, firstOf, restOf, gathered, brings}
+use Rattle.lines.specs.Theorems.Bools.{never, and-parts, neither, or-right}
 use Rattle.values.specs.Theorems.Gathering.{only, drop-rest}
 use Rattle.values.specs.Theorems.Copies.{isCopy, standingAt}
+use Rattle.values.specs.Theorems.Edits.{by-mark}
 use Rattle.runs.specs.Programs.{Transformation}
 use Rattle.runs.specs.Showing.{Shown}
 use Rattle.runs.specs.PuttingBack.{putBack}
@@ -36,7 +35,7 @@ use Rattle.paper.specs.Theorems.Ends.{said, Ends, went, failed, Guarding
 use Rattle.paper.specs.Theorems.Guards.{anyStanding, isKept, keptWhere, printed-guarding}
 use Rattle.paper.specs.Theorems.OneNode.{Strings, Tags, edited, still, Copies, alone}
 use Rattle.paper.specs.Theorems.Views.{FineNode, FineAlong, Permitted, AllPermitted}
-use Rattle.paper.specs.Agreement.{PassedTen, putBackBy, Suspect}
+use Rattle.paper.specs.Agreement.{PassedTen, putBackBy, countedView, Suspect}
 use Rattle.paper.specs.Theorems.Alike.{any-permitted, masterTrees, master-paint, backs, value-flat, edited-lines, edited-brush, put-ends, went-no-clash}
 
 -- ## The edits of node n alone
@@ -149,15 +148,10 @@ kept-or-found look watch (x ∷ v) ss = go (one (x .origin)) (kept-or-found look
     go (inr (n, f, w, k)) q = inr (n, 0, f, w, k)
     go (inl p) (inr (n, i, f, w, k)) = inr (n, suc i, f, w, k)
 
-unkept-edit : (t : List ℕ) (mark : ℕ) (text : List ℕ) → isKept t (brings t mark text) ≡ false → (mark ≡ deletedMark) ⊎ ((mark ≡ changedMark) × (text ≡ t))
-unfolding brings
-unkept-edit t mark text h = go (eqb mark changedMark) (eqb mark deletedMark) refl refl h
-  where
-    go : (a b : Bool) → eqb mark changedMark ≡ a → eqb mark deletedMark ≡ b → isKept t (cond a (changed text) (cond b deleted untouched)) ≡ false
-        → (mark ≡ deletedMark) ⊎ ((mark ≡ changedMark) × (text ≡ t))
-    go true b p q h = inr (eqb-true mark changedMark p, sameText-sound text t (not-false (sameText text t) h))
-    go false true p q h = inl (eqb-true mark deletedMark q)
-    go false false p q h = let z : _≡_ {A = ℕ} 0 1 = cc in absurd (omega arith)
+-- of what a line brings only a deletion is not kept: a change that counts is one to a new text
+unkept-deleted : (t : List ℕ) (mark : ℕ) (text : List ℕ) → isKept t (brings t mark text) ≡ false → mark ≡ deletedMark
+unkept-deleted t mark text =
+    by-mark (λ _ s. isKept t s ≡ false → mark ≡ deletedMark) t mark text (λ _ new h. never (sym h ∙ ap not new)) (λ m _. m) (λ h. never (sym h))
 
 module _ (entries : List Entry) (X : Transformation) (ls edited : List Line) (o : Shown) (J : PassedTen entries X ls edited o) (n : ℕ) where
   abbrev look : Lookup
@@ -192,7 +186,7 @@ module _ (entries : List Entry) (X : Transformation) (ls edited : List Line) (o 
   shown = backs entries X ls edited o J permit watch guard guards (λ m h. h) .g
 
   -- what is accepted is so with the edits of n alone
-  own-accepted : (r : Sequence × PairContext) → putBackBy guard X ls edited ≡ got r
+  own-accepted : (r : Sequence × PairContext) → putBackBy guard X ls (countedView ls o edited) ≡ got r
       → (z : Sequence × PairContext) × (backward guard (inPaper X) [] (paint look noMarks f) (brush look shown own) ≡ got z)
   own-accepted r h =
       let B = backs entries X ls edited o J permit watch guard guards (λ m h. h) in
@@ -203,8 +197,8 @@ module _ (entries : List Entry) (X : Transformation) (ls edited : List Line) (o 
       (a .0, a .1)
 
   -- so without a suspect line of n the rules have no clash there
-  kept-no-clash : (r : Sequence × PairContext) → putBackBy guard X ls edited ≡ got r → AllPermitted (keptWhere look (λ m. eqb n m && watch m)) (o .value) ups
-      → isClash (standingFor (oneMaster ls) X edited n) ≡ false
+  kept-no-clash : (r : Sequence × PairContext) → putBackBy guard X ls (countedView ls o edited) ≡ got r
+      → AllPermitted (keptWhere look (λ m. eqb n m && watch m)) (o .value) ups → isClash (standingFor (oneMaster ls) X edited n) ≡ false
   kept-no-clash r h p =
       let any = edited-lines entries X ls edited o J permit watch guard guards (λ m h. h) .fine anyStanding (any-permitted (o .value) ups) in
       let fine = fine-only n look permit (o .value) ups any (permitted-only n look watch (o .value) ups p) in
@@ -217,19 +211,20 @@ module _ (entries : List Entry) (X : Transformation) (ls edited : List Line) (o 
       go a (went q K _) = went-no-clash entries X ls edited o J permit watch guard guards (λ m h. h) own K n
       go (z, q) (failed e m c) = let z : _≡_ {A = ℕ} 0 1 = cc in absurd (omega arith)
 
-  pub clash-suspect : (r : Sequence × PairContext) → putBackBy guard X ls edited ≡ got r → isClash (standingFor (oneMaster ls) X edited n) ≡ true → Suspect ls edited o n
+  pub clash-suspect : (r : Sequence × PairContext) → putBackBy guard X ls (countedView ls o edited) ≡ got r → isClash (standingFor (oneMaster ls) X edited n) ≡ true
+      → Suspect edited o n
   clash-suspect r h c = go (kept-or-found look (λ m. eqb n m && watch m) (o .value) ups)
     where
-      go : AllPermitted (keptWhere look (λ m. eqb n m && watch m)) (o .value) ups ⊎ Found look (λ m. eqb n m && watch m) (o .value) ups → Suspect ls edited o n
+      go : AllPermitted (keptWhere look (λ m. eqb n m && watch m)) (o .value) ups ⊎ Found look (λ m. eqb n m && watch m) (o .value) ups → Suspect edited o n
       go (inl p) = let q = kept-no-clash r h p in let z : _≡_ {A = ℕ} 0 1 = cc in absurd (omega arith)
       go (inr (m, i, k, w, u)) =
           let v = and-parts (eqb n m) (watch m) w in
-          subst⁻¹ (Suspect ls edited o) (eqb-true n m (v .0))
+          subst⁻¹ (Suspect edited o) (eqb-true n m (v .0))
           (record {
             place = i;
             copy = k;
             compared = v .1;
             edit =
-                unkept-edit (look .bytes m) ((lineAt edited i) .mark) ((lineAt edited i) .text)
+                unkept-deleted (look .bytes m) ((lineAt edited i) .mark) ((lineAt edited i) .text)
                 (ap (isKept (look .bytes m)) (sym (brought-at look (o .value) edited m i k)) ∙ u);
           })

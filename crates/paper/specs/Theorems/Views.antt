@@ -1,4 +1,4 @@
--- The lines of an edited view in which replies 9 and 10 find no fault, and the lines that are handed back: both say what their standings say.
+-- The lines of an edited view in which replies 9 and 10 find no fault, with the marks that count, and the lines that are handed back: both say what their standings say.
 use mathlib.Core.Path.{_≡_, refl, sym, ap, subst⁻¹, _∙_}
 use mathlib.Core.Bool.{Bool, true, false, cond, _&&_, not}
 use mathlib.Core.List.{List, [], _∷_, _++_, append-assoc}
@@ -6,18 +6,19 @@ use Prim.Native.Nat.{ℕ, zero, suc, _+_, _<_}
 use native.Mathlib.Omega.{arith}
 use lib.Dec.{eqb, leb}
 use lib.ListN.{length, drop, getD}
-use borrow.Author.Tests.{eqb-true, eqb-false}
+use borrow.Author.Tests.{eqb-true, eqb-false, eq-eqb}
 use Rattle.lines.specs.declared.verdict.Verdict.the-variants.{Fine as Faultless, Fault}
 use Rattle.lines.specs.Nodes.{Line, untouchedMark, changedMark, deletedMark, isElement, isMarked, kindRule, programNumber, lineAt, noLine}
 use Rattle.lines.specs.Verdicts.{firstFrom}
-use Rattle.lines.specs.Views.{sameLine, differenceFrom, programMarked}
+use Rattle.lines.specs.Views.{sameLine, differenceFrom, programMarked, countedLine, countedLines}
 use Rattle.lines.specs.Masters.{depthAfter, placed, boundsFrom}
-use Rattle.lines.specs.Theorems.Bools.{and-parts}
+use Rattle.lines.specs.Theorems.Bools.{never, and-parts}
+use Rattle.lines.specs.Theorems.CountedMarks.{counted-same, counted-free, counted-rule}
 use Rattle.values.specs.Values.{Origin, master, program, Node, Value, Lookup, elementOf, bytesOf}
-use Rattle.values.specs.Standings.{Standing, untouched, locked, changed, deleted, clash, sort, isClash, firstOf, restOf, brings, handsBack}
+use Rattle.values.specs.Standings.{Standing, untouched, locked, changed, deleted, clash, sort, isClash, firstOf, restOf, says, brings, handsBack}
 use Rattle.values.specs.Theorems.Gathering.{drop-rest}
 use Rattle.values.specs.Theorems.Copies.{standingAt}
-use Rattle.values.specs.Theorems.Edits.{brings-fromLine, handsBack-head}
+use Rattle.values.specs.Theorems.Edits.{by-mark, brings-fromLine, handsBack-head}
 use Rattle.runs.specs.Grounds.{Numbered, numberedFrom, lineOf, linesIn, lookupIn, whole, Ground, shownLine, view, brought, handedBack}
 use Rattle.runs.specs.Theorems.ViewLines.{shownLine-depth}
 use Rattle.runs.specs.Theorems.SameView.{element-mark}
@@ -109,10 +110,10 @@ program-unmarked w h n = go (eqb (w .mark) untouchedMark) refl (rw n at h)
     go false e q = let z : _≡_ {A = ℕ} 0 1 = cc in absurd (omega arith)
 
 module _ (all : List Numbered) where
-  -- what a line of node n says
+  -- what the mark of a line of node n says
   master-inked : (n d : ℕ) (w : Line) → eqb n programNumber ≡ false → Alike w (shownLine all d (master n)) → kindRule (w .kind) (w .mark) (w .text) ≡ true
-      → Inked (lookupIn all) (λ u. u) (master n) w (brings (bytesOf (lookupIn all) (master n)) (w .mark) (w .text))
-  unfolding brings bytesOf elementOf shownLine
+      → Inked (lookupIn all) (λ u. u) (master n) w (says (w .mark) (w .text))
+  unfolding says bytesOf elementOf shownLine
   master-inked n d w h e form =
       record {
         from = rw (e .number, h);
@@ -126,15 +127,15 @@ module _ (all : List Numbered) where
       plain : eqb (w .mark) changedMark ≡ false → w .text ≡ t
       plain m = e .text (eqb-false (w .mark) changedMark m)
 
-      says : Bool → Bool → Standing
-      says a b = cond a (changed (w .text)) (cond b deleted untouched)
+      said : Bool → Bool → Standing
+      said a b = cond a (changed (w .text)) (cond b deleted untouched)
 
-      text : (a b : Bool) → (a ≡ false → w .text ≡ t) → (w .text ≡ textWith t (says a b)) × (cond a mod′ (cond b del ori) ≡ stateWith (says a b))
+      text : (a b : Bool) → (a ≡ false → w .text ≡ t) → (w .text ≡ textWith t (said a b)) × (cond a mod′ (cond b del ori) ≡ stateWith (said a b))
       text true b k = (refl, refl)
       text false true k = (k refl, refl)
       text false false k = (k refl, refl)
 
-      element : (a b : Bool) → a ≡ false → (a ≡ false → w .text ≡ t) → (w .text ≡ t) × (cond b delE oriE ≡ elementWith (says a b))
+      element : (a b : Bool) → a ≡ false → (a ≡ false → w .text ≡ t) → (w .text ≡ t) × (cond b delE oriE ≡ elementWith (said a b))
       element true b q k = let z : _≡_ {A = ℕ} 0 1 = cc in absurd (omega arith)
       element false true q k = (k refl, refl)
       element false false q k = (k refl, refl)
@@ -147,49 +148,52 @@ module _ (all : List Numbered) where
       let same : w .text ≡ t = p .text (λ c. let z : _≡_ {A = ℕ} 0 1 = cc in omega arith) in
       record { from = rw (p .number); asText = λ _. (same, rw m); asElement = λ _. (same, rw m) }
 
-  edit-inked : (o : Origin) (d : ℕ) (w : Line) → Numbering o → Alike w (shownLine all d o) → programMarked w ≡ false → kindRule (w .kind) (w .mark) (w .text) ≡ true
-      → Inked (lookupIn all) (λ u. u) o w (brings (bytesOf (lookupIn all) o) (w .mark) (w .text))
-  edit-inked (master n) d w h e q form = master-inked n d w h e form
-  edit-inked (program x b t) d w h e q form = program-inked x b t d w (brings (bytesOf (lookupIn all) (program x b t)) (w .mark) (w .text)) e q
+  -- with the mark that counts a line says what it brings
+  edit-inked : (o : Origin) (d : ℕ) (w : Line) → let f = shownLine all d o in Numbering o → sameLine w f ≡ true → programMarked w ≡ false
+      → kindRule (w .kind) (w .mark) (w .text) ≡ true → Inked (lookupIn all) (λ u. u) o (countedLine f w) (brings (bytesOf (lookupIn all) o) (w .mark) (w .text))
+  unfolding brings bytesOf shownLine
+  edit-inked (master n) d w h s q form =
+      let f = shownLine all d (master n) in
+      master-inked n d (countedLine f w) h (same-alike (countedLine f w) f (counted-same f w s)) (counted-rule f w form)
+  edit-inked (program x b t) d w h s q form =
+      let f = shownLine all d (program x b t) in
+      program-inked x b t d (countedLine f w) _ (same-alike (countedLine f w) f (counted-same f w s)) (counted-free f w q)
 
   -- and the paper can write it
   edit-fine : (permit : Permit) (o : Origin) (d : ℕ) (w : Line) → Alike w (shownLine all d o) → kindRule (w .kind) (w .mark) (w .text) ≡ true
       → Permitted permit o (brings (bytesOf (lookupIn all) o) (w .mark) (w .text)) → FineNode (lookupIn all) permit o (brings (bytesOf (lookupIn all) o) (w .mark) (w .text))
-  unfolding brings elementOf shownLine
+  unfolding elementOf shownLine
   edit-fine permit (program x b t) d w e form p = (λ _. tt, λ _. tt)
-  edit-fine permit (master n) d w e form p = (
-    λ _. (brings-fromLine (bytesOf (lookupIn all) (master n)) (w .mark) (w .text) .0, p),
-    λ i. plain (eqb (w .mark) changedMark) (eqb (w .mark) deletedMark) (element-mark (w .kind) (w .mark) (w .text) (ap isElement (e .kind) ∙ i) form),
-  )
-    where
-      plain : (a b : Bool) → a ≡ false → isPlain (cond a (changed (w .text)) (cond b deleted untouched)) ≡ true
-      plain true b q = sym q
-      plain false true q = refl
-      plain false false q = refl
+  edit-fine permit (master n) d w e form p =
+      let fresh = bytesOf (lookupIn all) (master n) in (
+        λ _. (brings-fromLine fresh (w .mark) (w .text) .0, p),
+        λ i. by-mark (λ _ s. isPlain s ≡ true) fresh (w .mark) (w .text)
+            (λ m _. never (sym (element-mark (w .kind) (w .mark) (w .text) (ap isElement (e .kind) ∙ i) form) ∙ eq-eqb (w .mark) changedMark m)) (λ _. refl) refl,
+      )
 
 -- ## The edited view
 
--- every line stands beside its node and says what it brings
+-- with the marks that count, every line stands beside its node and says what it brings
 pub record Read (G : Ground) (v : Value) (ws : List Line) : Type 0 where
-  pub beside : Beside (lookupIn (G .lines)) v ws
-  pub inked : InkedAll (lookupIn (G .lines)) (λ u. u) v ws (brought (lookupIn (G .lines)) v ws)
+  pub beside : Beside (lookupIn (G .lines)) v (countedLines (view G v) ws)
+  pub inked : InkedAll (lookupIn (G .lines)) (λ u. u) v (countedLines (view G v) ws) (brought (lookupIn (G .lines)) v ws)
   pub fine : (permit : Permit) → AllPermitted permit v (brought (lookupIn (G .lines)) v ws) → FineAlong (lookupIn (G .lines)) permit v (brought (lookupIn (G .lines)) v ws)
 
 module _ (G : Ground) where
   read-line : (x : Node) (v : Value) (w : Line) (ws : List Line) → Numbering (x .origin) → sameLine w (shownLine (G .lines) (x .depth) (x .origin)) ≡ true → programMarked w ≡ false
       → kindRule (w .kind) (w .mark) (w .text) ≡ true → Read G v ws → Read G (x ∷ v) (w ∷ ws)
-  unfolding brought
+  unfolding view countedLines brought
   read-line x v w ws n s q form r =
       let e = same-alike w (shownLine (G .lines) (x .depth) (x .origin)) s in
       record {
         beside = (e .depth ∙ shownLine-depth (G .lines) (x .depth) (x .origin), ap isElement (e .kind) ∙ shown-kind (G .lines) (x .depth) (x .origin), r .beside);
-        inked = (edit-inked (G .lines) (x .origin) (x .depth) w n e q form, r .inked);
+        inked = (edit-inked (G .lines) (x .origin) (x .depth) w n s q form, r .inked);
         fine = λ permit p. (edit-fine (G .lines) permit (x .origin) (x .depth) w e form (p .0), r .fine permit (p .1));
       }
 
   pub edited-read : (k j : ℕ) (v : Value) (ws : List Line) → AllNumbering v → differenceFrom k ws (view G v) ≡ Faultless → firstFrom programMarked j ws ≡ Faultless
       → ((i : ℕ) → kindRule ((lineAt ws i) .kind) ((lineAt ws i) .mark) ((lineAt ws i) .text) ≡ true) → Read G v ws
-  unfolding differenceFrom firstFrom view brought
+  unfolding differenceFrom firstFrom view countedLines brought
   edited-read k j [] [] n d p form = record { beside = tt; inked = tt; fine = λ permit q. tt }
   edited-read k j [] (w ∷ ws) n d p form = let z : _≡_ {A = ℕ} 0 1 = cc in absurd (omega arith)
   edited-read k j (x ∷ v) [] n d p form = let z : _≡_ {A = ℕ} 0 1 = cc in absurd (omega arith)
@@ -246,8 +250,8 @@ handed-read all permit s most k (l ∷ ls) rs h n f m g F =
     own : lineOf all k ≡ l
     own = ap (lineOf all) here ∙ f 0 (omega arith)
 
-    says : s k ≡ firstOf rs
-    says = ap s here ∙ g 0 (omega arith)
+    stands : s k ≡ firstOf rs
+    stands = ap s here ∙ g 0 (omega arith)
 
     go : (b : Bool) → placed most k l ≡ b → cond b (boundsFrom (depthAfter l) (suc k) ls) (Fault k) ≡ Faultless
         → (boundsFrom (depthAfter l) (suc k) ls ≡ Faultless
@@ -262,7 +266,7 @@ handed-read all permit s most k (l ∷ ls) rs h n f m g F =
         let hd = handsBack-head l (s k) in (
           (hd .0, ap isElement (hd .1) ∙ ap (λ (z : Line). isElement (z .kind)) (sym own), r .0),
           (
-            subst⁻¹ (λ (z : Standing). Inked (lookupIn all) unlockedState (master k) (handsBack l z) (firstOf rs)) says
+            subst⁻¹ (λ (z : Standing). Inked (lookupIn all) unlockedState (master k) (handsBack l z) (firstOf rs)) stands
                 (handed-inked (lookupIn all) permit k l (firstOf rs) (ap (λ (z : Line). z .text) own) (m 0) num (n .0) (F .0)),
             r .1,
           ),

@@ -9,8 +9,9 @@ use lib.Dec.{eqb}
 use borrow.Author.Tests.{eqb-true, not-false}
 use Rattle.lines.specs.declared.verdict.Verdict.the-variants.{Fine, Fault}
 use Rattle.lines.specs.Nodes.{Line, isElement, changedMark, lineAt}
+use Rattle.lines.specs.Views.{markCounted}
 use Rattle.values.specs.Values.{Origin, master, program, Value, Lookup, bytesOf, isFrom, among}
-use Rattle.values.specs.Standings.{Standing, untouched, isUntouched, isClash, _⋓_, gathered, brings, isEdit, handsBack}
+use Rattle.values.specs.Standings.{Standing, untouched, isUntouched, isClash, _⋓_, gathered, says, brings, isEdit, handsBack}
 use Rattle.values.specs.Theorems.MergeLaws.{unit-left, unit-right}
 use Rattle.values.specs.Theorems.Copies.{isCopy, standingAt, Silent, Speaks, silent-or-speaks}
 use Rattle.values.specs.Theorems.Edits.{edit-speaks, FromLine, brings-fromLine, untouched-fromLine, isChanged}
@@ -92,7 +93,7 @@ nothing-at (suc i) = nothing-at i
 -- a line of node n is read beside that node's bytes
 pub brought-at : (look : Lookup) (v : Value) (ls : List Line) (n i : ℕ) → isCopy n v i ≡ true
     → standingAt (brought look v ls) i ≡ brings (look .bytes n) ((lineAt ls i) .mark) ((lineAt ls i) .text)
-unfolding brought standingAt isCopy brings
+unfolding brought standingAt isCopy brings says markCounted
 brought-at look [] ls n i h = cc
 brought-at look (x ∷ v) [] n i h = nothing-at i
 brought-at look (x ∷ v) (l ∷ ls) n zero h = ap (λ (f : List ℕ). brings f (l .mark) (l .text)) (from-bytes look n (x .origin) h)

@@ -8,6 +8,7 @@ use lib.Dec.{eqb}
 use lib.ListN.{getD}
 use Rattle.lines.specs.declared.verdict.Verdict.the-variants.{Fine}
 use Rattle.lines.specs.Nodes.{Line, untouchedMark, lineAt, noLine}
+use Rattle.lines.specs.Views.{markCounted}
 use Rattle.values.specs.Values.{Origin, master, program, Value, among}
 use Rattle.values.specs.Standings.{Standing, locked, sort, isClash, isEdit}
 use Rattle.values.specs.Theorems.Gathering.{only}
@@ -67,7 +68,7 @@ view-mark G u (x ∷ v) zero = fresh-mark (G .lines) u (x .depth) (x .origin)
 view-mark G u (x ∷ v) (suc i) = view-mark G u v i
 
 unmarked-unedited : (fresh : List ℕ) (mark : ℕ) (bytes : List ℕ) → mark ≡ untouchedMark → isEdit fresh mark bytes ≡ false
-unfolding isEdit
+unfolding isEdit markCounted
 unmarked-unedited fresh mark bytes h = rw h
 
 pub fresh-same : (G : Ground) (X : Transformation) (o : Shown) → showing G X ≡ gives o → Unmarked (G .lines)

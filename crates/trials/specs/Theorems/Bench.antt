@@ -1,4 +1,4 @@
--- Document 01's bench examples 1 to 10, as one table under one statement.
+-- Document 01's bench examples 1 to 10, example 6 as request #101 has it, as one table under one statement.
 use Prim.Native.Nat.{ℕ}
 use Prim.Native.String.{String}
 use mathlib.Core.Path.{refl}
@@ -39,7 +39,7 @@ inner = file (line 1 0x06 ∷ [])
 abbrev pub whole : List ℕ
 whole = file (line 1 0x01 ∷ [])
 
--- lines of P's view: the first, and the second as it is, changed to "hi", to "xx", to "lo" again, and deleted
+-- lines of P's view: the first, and the second as it is, changed to "hi", to "xx", saved as "lo", and deleted
 abbrev first : List ℕ
 first = line 8 0x0001000002026869
 
@@ -64,8 +64,16 @@ P-view = file (first ∷ second ∷ [])
 abbrev pub P-view-hi : List ℕ
 P-view-hi = file (first ∷ second-hi ∷ [])
 
+-- line 1 saved with its old text
+abbrev pub P-view-saved : List ℕ
+P-view-saved = file (first ∷ second-lo ∷ [])
+
 abbrev pub PP-view-clash : List ℕ
 PP-view-clash = file (first ∷ second-hi ∷ first ∷ second-xx ∷ [])
+
+-- line 1 saved with its old text, line 3 changed
+abbrev pub PP-view-saved : List ℕ
+PP-view-saved = file (first ∷ second-lo ∷ first ∷ second-hi ∷ [])
 
 -- the view of M's contents, with node 1 deleted and node 2 changed to "lo"
 abbrev pub inner-view-both : List ℕ
@@ -77,7 +85,7 @@ only-hi-view-lo = file (line 8 0x0001010002026C6F ∷ [])
 
 -- ## The table
 
--- an example's number in document 01, with a letter where it is more than one view shown and put back; and the case
+-- an example's number in document 01, with a letter where it is more than one view shown and put back, or with the request that it is for; and the case
 pub record Row : Type 0 where
   pub example : String
   pub case : Case
@@ -95,11 +103,12 @@ bench =
     row "4" (putsBack M PP (file (first ∷ second-hi ∷ first ∷ second ∷ []))) 0 0 0x4F M-hi ∷
     row "5a" (putsBack M PP PP-view-clash) 11 4 0 [] ∷
     row "5b" (putsBack M PP (file (first ∷ second-gone ∷ first ∷ second-hi ∷ []))) 11 4 0 [] ∷
-    row "6" (putsBack M PP (file (first ∷ second-lo ∷ first ∷ second-hi ∷ []))) 11 4 0 [] ∷
+    row "6" (putsBack M PP PP-view-saved) 0 0 0x4F M-hi ∷
     row "7" (shows M only-hi) 0 0 0x11 (file (first ∷ [])) ∷
     row "7" (putsBack M only-hi only-hi-view-lo) 11 2 0 [] ∷
     row "8" (shows M hi) 0 0 0x11 (file (line 8 0x000100FFFF026869 ∷ [])) ∷
     row "8" (putsBack M hi (file (line 8 0x000102FFFF026869 ∷ []))) 10 0 0 [] ∷
+    row "8 by #101" (putsBack M hi (file (line 8 0x000101FFFF026869 ∷ []))) 10 0 0 [] ∷
     row "9a" (shows [] inner) 6 0 0 [] ∷
     row "9b" (shows [] whole) 0 0 0 [] ∷
     row "9c" (putsBack [] whole []) 0 0 0 [] ∷

@@ -15,13 +15,13 @@ use Rattle.lines.specs.Entries.{rows, rowOf, textForm, operandForm, entryForm, 
 use Rattle.lines.specs.Files.{formOf, limitOf, scanFrom, scan}
 use Rattle.lines.specs.Masters.{depthAfter, placed, boundsFrom, masterBounds, unmarked}
 use Rattle.lines.specs.Verdicts.{firstFrom, earlier}
-use Rattle.lines.specs.Views.{sameHead, sameLine, differenceFrom, firstDifference, programMarked, programMark}
+use Rattle.lines.specs.Views.{sameHead, sameLine, differenceFrom, firstDifference, programMarked, programMark, markCounted}
 use Rattle.lines.specs.Theorems.Bools.{and-both}
 use Rattle.lines.specs.Writing as writing
 use Rattle.lines.specs.Writing.{fileOf, putAt}
 use Rattle.values.specs.Values as values
 use Rattle.values.specs.Values.{among, elementOf, isFrom, masterNumber, isTop, noTop, startsTop, lowered, raised, toFirst, items, shallow, withinBounds}
-use Rattle.values.specs.Standings.{sort, newText, isUntouched, isClash, sameStanding, _⋓_, fitted, allOver, merged, gathered, brings, handsBack}
+use Rattle.values.specs.Standings.{sort, newText, isUntouched, isClash, sameStanding, _⋓_, fitted, allOver, merged, gathered, says, brings, handsBack}
 use Rattle.runs.specs.Results.{gives, stops, stopNumber, stopEntry}
 use Rattle.runs.specs.Reading.{operations, makes, below, readProgram}
 use Rattle.runs.specs.Showing.{valueIn, oneTop, oneElement, oneText, bounded, inTurn, verdict, show}
@@ -98,11 +98,11 @@ unfolding answered file
     entries entryLine entryForm operandForm rowOf rows textForm isTag allOf slotOf textOf
     nodes nodeLine nodeForm kindRule isElement isMarked
     masterBounds boundsFrom placed depthAfter unmarked firstFrom earlier
-    firstDifference differenceFrom sameLine sameHead programMark programMarked sameText agree
+    firstDifference differenceFrom sameLine sameHead programMark programMarked markCounted sameText agree
     readProgram below makes operations among
     showing show whole numberedFrom grounds.lineOf valueIn oneTop oneElement oneText bounded inTurn verdict stopNumber stopEntry
     elementOf values.bytesOf isFrom masterNumber isTop noTop startsTop lowered raised toFirst items shallow withinBounds view shownLine
-    putBack standingFor standing brought brings mergedInto untouchedSlots gatheredSlots valueOf saysYes inside overItems
+    putBack standingFor standing brought brings says mergedInto untouchedSlots gatheredSlots valueOf saysYes inside overItems
     sort newText isUntouched isClash sameStanding _⋓_ fitted allOver merged gathered firstClash handedBack handsBack linesIn
 answer (shows master program) = answered (judgedShow master program)
 answer (putsBack master program edited) = answered (judgedPutBack master program edited)

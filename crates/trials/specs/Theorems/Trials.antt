@@ -3,21 +3,25 @@ use Prim.Native.Nat.{ℕ}
 use mathlib.Core.Path.{_≡_, refl, sym, ap, _∙_}
 use mathlib.Core.Bool.{cond}
 use mathlib.Core.List.{List, [], _∷_}
+use mathlib.Core.Logic.{inr}
 use native.Mathlib.Omega.{arith}
 use lib.ListN.{length}
-use Rattle.lines.specs.Nodes.{Line, nodes, isMarked, lineAt}
+use Rattle.lines.specs.Nodes.{Line, nodes, untouchedMark, lineAt}
 use Rattle.lines.specs.Writing.{fileOf, putAt}
 use Rattle.lines.specs.Theorems.PutAt.{put-front}
+use Rattle.values.specs.Standings.{isEdit}
 use Rattle.runs.specs.Results.{gives, stops}
 use Rattle.runs.specs.Programs.{contents}
+use Rattle.runs.specs.Showing.{Shown}
 use Rattle.calls.specs.Judging.{Judged, judgedShow}
 use Rattle.calls.specs.Outcomes.{Outcome, outcome, cleared, showCall, putBackCall}
-use Rattle.calls.specs.Demands.{ShowLike, PutLike, numberOf, lengthOf, written, ShowDemand2, Given, Demand3}
+use Rattle.calls.specs.Demands.{ShowLike, PutLike, numberOf, lengthOf, written, ShowDemand2, Given, freshLines, EditedLine, Demand3}
 use Rattle.calls.specs.Theorems.Demand3.{demand3}
 use Rattle.trials.specs.Theorems.Contracts.{MeetsShow, MeetsPutBack, fails-show-demand2, fails-demand3}
 use Rattle.trials.specs.Theorems.Cases.{line, file, shownNode, putsBack, case, answer, holds, roomyOut, roomyWork, roomy}
-use Rattle.trials.specs.Theorems.Bench.{M, P, whole, inner, P-view, P-view-hi, inner-view-both}
-use Rattle.trials.specs.Theorems.Demand3Cases.{given-on-M, accepted-given, accepted-case}
+use Rattle.trials.specs.Theorems.Bench.{M, P, PP, whole, inner, P-view, P-view-hi, P-view-saved, PP-view-saved, inner-view-both}
+use Rattle.trials.specs.Theorems.Demand3Cases.{given-on-M, fresh-on-M, unlike, accepted-given, accepted-line, accepted-case}
+use Rattle.trials.specs.Theorems.Demand3Cases.{saved-given, saved-case, alone-given, alone-case, alone-unedited}
 
 -- ## One that only refuses (demand 3 says when a view is accepted)
 
@@ -73,17 +77,17 @@ pub handsBackUnread-rejected : (show : ShowLike) → Demand3 show handsBackUnrea
 unfolding handsBackUnread answer
 handsBackUnread-rejected show d =
     let a = d M P P-view-hi roomyOut roomyWork example-2 in
-    let e = (a .returned refl) .edits 4 1 (record { marked = refl; number = refl }) in
+    let e = (a .returned refl) .edits 4 1 (accepted-line roomyOut roomyWork example-2) in
     let z : _≡_ {A = ℕ} 0 1 = ap (λ (l : Line). l .mark) (ap (λ (s : List ℕ). lineAt (nodes s) 4) (sym (put-front roomyOut M)) ∙ e) in
     omega arith
 
 -- ## One that honours just the first edited line (demand 3)
 
--- the first marked line as it is, all others fresh
+-- the first edited line as it is, all others fresh
 unfoldable pub firstEdit : List Line → List Line → List Line
 firstEdit [] fresh = fresh
 firstEdit (e ∷ es) [] = []
-firstEdit (e ∷ es) (f ∷ fresh) = cond (isMarked e) (e ∷ fresh) (f ∷ firstEdit es fresh)
+firstEdit (e ∷ es) (f ∷ fresh) = cond (isEdit (f .text) (e .mark) (e .text)) (e ∷ fresh) (f ∷ firstEdit es fresh)
 
 unfoldable pub shownLines : Judged (List Line) → List Line
 shownLines (gives fresh) = fresh
@@ -98,14 +102,21 @@ abbrev M-first : List ℕ
 M-first = file (line 7 0x00020000000164 ∷ line 7 0x01020200010177 ∷ line 8 0x0201000002026869 ∷ line 7 0x01020000030177 ∷ line 8 0x0201000004026C6F ∷ [])
 
 -- example 10 has two edits
+abbrev inner-shown : Shown
+inner-shown = record { value = shownNode 0 1 ∷ shownNode 1 2 ∷ shownNode 0 3 ∷ shownNode 1 4 ∷ []; compared = [] }
+
 both-given : Given M inner inner-view-both roomyOut roomyWork
 unfolding answer
-both-given =
-    given-on-M inner inner-view-both (contents 0) refl
-    (record { value = shownNode 0 1 ∷ shownNode 1 2 ∷ shownNode 0 3 ∷ shownNode 1 4 ∷ []; compared = [] }) refl roomyOut roomyWork refl roomy
+both-given = given-on-M inner inner-view-both (contents 0) refl inner-shown refl roomyOut roomyWork refl roomy
+
+-- the second is that of line 1, of node 2
+second-line : EditedLine (freshLines both-given) (nodes inner-view-both) 2 1
+unfolding answer
+second-line =
+    rw (fresh-on-M inner inner-view-both (contents 0) refl inner-shown refl roomyOut roomyWork both-given) (record { edit = inr (refl, unlike (omega arith)); number = refl })
 
 first-honoured : honoursFirst M inner inner-view-both roomyOut roomyWork ≡ outcome 0 0 (length M-first) (putAt roomyOut 0 M-first) (cleared roomyWork)
-unfolding honoursFirst firstEdit shownLines answer
+unfolding honoursFirst firstEdit isEdit shownLines answer
 first-honoured =
     holds (case (putsBack M inner (fileOf (firstEdit (nodes inner-view-both) (shownLines (judgedShow M inner))))) 0 0 (length M-first) M-first) refl
     roomyOut roomyWork roomy
@@ -114,9 +125,28 @@ pub honoursFirst-rejected : (show : ShowLike) → Demand3 show honoursFirst → 
 unfolding answer
 honoursFirst-rejected show d =
     let a = d M inner inner-view-both roomyOut roomyWork both-given in
-    let e = (a .returned (ap numberOf first-honoured)) .edits 2 1 (record { marked = refl; number = refl }) in
+    let e = (a .returned (ap numberOf first-honoured)) .edits 2 1 second-line in
     let z : _≡_ {A = ℕ} 0 1 = ap (λ (l : Line). l .mark) (ap (λ (s : List ℕ). lineAt (nodes s) 2) (sym (ap written first-honoured ∙ put-front roomyOut M-first)) ∙ e) in
     omega arith
+
+-- ## One that takes a saved line for a change, as document 01 did (demand 3, by request #101)
+
+-- example 6: to answer 11 is to let the saved line beat down the change beside it
+pub saved-beats-down : (show : ShowLike) (put : PutLike) → numberOf (put M PP PP-view-saved roomyOut roomyWork) ≡ 11 → Demand3 show put → ⊥
+saved-beats-down show put h d =
+    let given = saved-given roomyOut roomyWork roomy in
+    let ours = (demand3 M PP PP-view-saved roomyOut roomyWork given) .accepted .0 (saved-case roomyOut roomyWork roomy) in
+    let z = (d M PP PP-view-saved roomyOut roomyWork given) .accepted .1 ours in
+    omega arith
+
+-- one saved line and nothing else: to hand its node back with another mark than 00 is to take it for a change
+pub saved-marks : (show : ShowLike) (put : PutLike) → let r = put M P P-view-saved roomyOut roomyWork in
+    ((lineAt (nodes (written r)) 4) .mark ≡ untouchedMark → ⊥) → Demand3 show put → ⊥
+saved-marks show put h d =
+    let given = alone-given roomyOut roomyWork roomy in
+    let a = d M P P-view-saved roomyOut roomyWork given in
+    let ours = (demand3 M P P-view-saved roomyOut roomyWork given) .accepted .0 (alone-case roomyOut roomyWork roomy) in
+    h ((a .returned (a .accepted .1 ours)) .unedited 4 (alone-unedited roomyOut roomyWork given 4) .0)
 
 -- ## One with an invented length, whatever it is (demand 2 counts the lines)
 

@@ -1,9 +1,9 @@
--- By the mark of line `i`.
+-- By the mark of line `i` that counts.
 use mathlib.Core.Path.{_≡_, sym, _∙_}
 use mathlib.Core.List.{List}
-use lib.ListN.{getD}
 use borrow.Author.Needs.{needs}
-use Rattle.lines.specs.Nodes.{Line, noLine}
+use Rattle.lines.specs.Nodes.{Line, lineAt}
+use Rattle.lines.specs.Views.{countedLine}
 use Rattle.lines.specs.Engine.Starts.{linesOf}
 use Rattle.calls.proofs.ViewWords.{mark-read, word-changed, word-deleted, word-untouched}
 use Rattle.calls.proofs.view_in.brought.Statement.{statement}
@@ -13,30 +13,35 @@ abbrev es : tie.Start → List Line
 es s = linesOf (s .args .view .now) (s .args .lines .now)
 
 abbrev line : tie.Start → Line
-line s = getD (es s) (s .args .i) noLine
+line s = countedLine (lineAt (linesOf (s .args .fresh .now) (s .args .fresh-lines .now)) (s .args .i)) (lineAt (es s) (s .args .i))
 
-mark : (p : tie.After-mark-at) → p .mark-at .result ≡ line (p .before .before .before .before) .mark
-mark p = let s = p .before .before .before .before in mark-read (s .args .view .now) (s .args .lines .now) (s .args .i) (s .pre .0) (p .mark-at .ensures)
+abbrev entered : tie.After-mark-counted → tie.Start
+entered p = p .before .before .before .before .before .before .before
+
+mark : (p : tie.After-mark-counted) → p .mark-counted .result ≡ line (entered p) .mark
+mark p =
+    let s = entered p in
+    mark-read (s .args .view .now) (s .args .lines .now) (s .args .fresh .now) (s .args .fresh-lines .now) (s .args .i) (s .pre .0) (s .pre .1) (p .mark-counted .ensures)
 
 returns : tie.Need-returns
 returns c =
     let p = c .before .before in
-    let s = p .before .before .before .before in
+    let s = entered p in
     word-changed (es s) (line s) (sym (mark p) ∙ c .before .if1 .taken) (c .first-same .ensures .0)
 
 returns-2 : tie.Need-returns-2
 returns-2 c =
     let p = c .before .before in
-    let s = p .before .before .before .before in
+    let s = entered p in
     word-deleted (es s) (line s) (λ e. c .before .if1 .left (mark p ∙ e)) (sym (mark p) ∙ c .if2 .taken)
 
 returns-3 : tie.Need-returns-3
 returns-3 c =
     let p = c .before .before in
-    let s = p .before .before .before .before in
+    let s = entered p in
     word-untouched (es s) (line s) (λ e. c .before .if1 .left (mark p ∙ e)) (λ e. c .if2 .left (mark p ∙ e))
 
 pub brought-spec : {M : Type 1} → statement M
 brought-spec =
-    tie.close (tie.spec (λ c. search needs) (λ c. search needs) (λ c κs. search needs) (λ c κs. search needs) (λ c. search needs) (λ c. search needs)
-    returns returns-2 returns-3)
+    tie.close (tie.spec (λ c. search needs) (λ c. search needs) (λ c. search needs) (λ c. search needs) (λ c κs. search needs) (λ c κs. search needs)
+    (λ c. search needs) (λ c. search needs) returns returns-2 returns-3)

@@ -1,0 +1,159 @@
+//! Seeded put backs of views in which many lines were saved without touching and a few edited, over
+//! programs with copies and tests.
+
+use super::build::{self, Program};
+use super::chance::Chance;
+use super::{Aim, LONGEST_PROGRAM, WORK_ROOMS, templates, words};
+use crate::entry;
+use crate::node_line::{self, FROM_PROGRAM, Kind, Mark, NodeLine};
+use crate::stream::{Call, Case};
+use std::collections::BTreeSet;
+
+const AIMS: [Aim; 3] = [Aim::Through, Aim::ViewComparison, Aim::ProgramMarks];
+
+/// The shares of the aims, in their order.
+const WEIGHTS: [usize; 3] = [80, 8, 12];
+
+const TEMPLATE_SHARE: usize = 40;
+const COPIED_SHARE: usize = 70;
+
+pub fn cases(seed: u64, count: usize) -> Vec<Case> {
+    (0..count).map(|index| case(seed, index)).collect()
+}
+
+pub fn case(seed: u64, index: usize) -> Case {
+    let mut chance = Chance::of_case(seed, index);
+    let aim = AIMS[chance.weighted(&WEIGHTS)];
+    let ((master, program), fresh, compared) = shown(&mut chance, aim);
+    let mut view = visited(&mut chance, &fresh, aim);
+    edit_some(&mut chance, &fresh, &compared, &mut view);
+    if aim == Aim::ViewComparison {
+        misplace(&mut chance, &mut view);
+    }
+    let [master, view] = [master, view].map(|lines| node_line::write_file(&lines));
+    let program = entry::write_file(&program);
+    let mut case = Case::with_least_rooms(Call::PutBack, master, program, view);
+    super::rooms(&mut chance, false, &mut case, &WORK_ROOMS);
+    case
+}
+
+/// A ground whose fresh view has a text of the master, that view, and the numbers compared.
+fn shown(chance: &mut Chance, aim: Aim) -> (templates::Ground, Vec<NodeLine>, BTreeSet<u16>) {
+    loop {
+        let (master, program) = ground(chance, aim);
+        if let Ok((fresh, compared)) = super::run(&master, &program)
+            && fresh.iter().any(|line| is_text(line) && line.number != FROM_PROGRAM)
+        {
+            return ((master, program), fresh, compared);
+        }
+    }
+}
+
+fn ground(chance: &mut Chance, aim: Aim) -> templates::Ground {
+    let (master, mut program) = match chance.percent(TEMPLATE_SHARE) {
+        true => templates::running(chance),
+        false => super::ground(chance, &[]),
+    };
+    if chance.percent(COPIED_SHARE) && may_double(&program) {
+        program = build::beside(program.clone(), program);
+    }
+    if aim == Aim::ProgramMarks {
+        program = super::with_program_lines(chance, &master, program);
+    }
+    (master, program)
+}
+
+fn may_double(program: &Program) -> bool {
+    2 * program.len() < LONGEST_PROGRAM && build::levels(program, 0) < 12
+}
+
+fn is_text(line: &NodeLine) -> bool {
+    line.kind == Kind::Text
+}
+
+/// The fresh view as an editor leaves it that marks each line it has visited.
+fn visited(chance: &mut Chance, fresh: &[NodeLine], aim: Aim) -> Vec<NodeLine> {
+    let mut view = fresh.to_vec();
+    let share = *chance.pick(&[100, 90, 60, 30]);
+    for line in view.iter_mut().filter(|line| is_text(line)) {
+        let may_be_visited = line.number != FROM_PROGRAM || aim == Aim::ProgramMarks;
+        if may_be_visited && chance.percent(share) {
+            line.mark = Mark::Changed;
+        }
+    }
+    view
+}
+
+/// Edits a few nodes: texts rather than elements, and often none that was compared.
+fn edit_some(
+    chance: &mut Chance,
+    fresh: &[NodeLine],
+    compared: &BTreeSet<u16>,
+    view: &mut [NodeLine],
+) {
+    let with_elements = chance.percent(25);
+    let with_compared = chance.percent(50);
+    let may_be_edited = |line: &&NodeLine| {
+        line.number != FROM_PROGRAM
+            && (with_elements || is_text(line))
+            && (with_compared || !compared.contains(&line.number))
+    };
+    let open: Vec<u16> = fresh.iter().filter(may_be_edited).map(|line| line.number).collect();
+    for _ in 0..chance.weighted(&[15, 45, 25, 15]) {
+        if !open.is_empty() {
+            let number = *chance.pick(&open);
+            edit_node(chance, number, fresh, view);
+        }
+    }
+}
+
+/// Edits one line of a node, some alike, or each in its own way.
+fn edit_node(chance: &mut Chance, number: u16, fresh: &[NodeLine], view: &mut [NodeLine]) {
+    let places: Vec<usize> =
+        (0..fresh.len()).filter(|&place| fresh[place].number == number).collect();
+    let one = *chance.pick(&places);
+    let alike = edit(chance, &fresh[one]);
+    let way = chance.weighted(&[50, 30, 20]);
+    for place in places {
+        let edit = match way {
+            0 if place == one => alike.clone(),
+            1 if chance.percent(50) => alike.clone(),
+            2 => edit(chance, &fresh[place]),
+            _ => continue,
+        };
+        (view[place].mark, view[place].bytes) = edit;
+    }
+}
+
+/// The mark and the bytes that a line is given.
+fn edit(chance: &mut Chance, fresh: &NodeLine) -> (Mark, Vec<u8>) {
+    match is_text(fresh) && chance.percent(70) {
+        true => (Mark::Changed, near(chance, &fresh.bytes)),
+        false => (Mark::Deleted, fresh.bytes.clone()),
+    }
+}
+
+/// A text a little off the old one, or a word.
+fn near(chance: &mut Chance, old: &[u8]) -> Vec<u8> {
+    match (chance.below(8), old) {
+        (0, _) if old.len() < 32 => [old, b" "].concat(),
+        (1, _) if old.len() < 32 => [old, b"\0"].concat(),
+        (2, [first, behind @ ..]) => [&[first ^ 0x01], behind].concat(),
+        (3, [before @ .., last]) => [before, &[last ^ 0x01]].concat(),
+        (4, [before @ .., _]) => before.to_vec(),
+        (5, _) => old.to_ascii_uppercase(),
+        _ => words::text(chance),
+    }
+}
+
+/// A line that stands at another depth, has another number, or is missing.
+fn misplace(chance: &mut Chance, view: &mut Vec<NodeLine>) {
+    let place = chance.below(view.len());
+    match chance.below(3) {
+        0 => view[place].depth += 1,
+        1 => view[place].number ^= 0x01,
+        _ => {
+            view.remove(place);
+        }
+    }
+}
