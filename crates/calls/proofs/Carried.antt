@@ -25,8 +25,8 @@ use Rattle.runs.specs.Showing.{Shown}
 use Rattle.runs.specs.PuttingBack.{Back, putBack, untouchedSlots, gatheredSlots, valueOf}
 use Rattle.runs.specs.Grounds.{numberedFrom, linesIn, lookupIn, whole, Ground, oneMaster, showing, shownLine, view, brought, standing, standingFor}
 use Rattle.runs.specs.Grounds.{firstClash, handedBack}
+use Rattle.runs.specs.Theorems.CountedViews.{shown-text}
 use Rattle.calls.specs.Judging.{keeps, judgedStandings}
-use Rattle.calls.specs.Theorems.SavedLines.{shown-text}
 use Rattle.calls.specs.Engine.Parts.{textsOf, handedOver, firstWith, broughtWord, broughtWords}
 
 -- ## The first line with a text

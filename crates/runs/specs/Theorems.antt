@@ -15,6 +15,7 @@ pub mod ViewLines
 pub mod SameView
 pub mod OneMaster
 pub mod FreshView
+pub mod CountedViews
 -- Values and lists of standings: bounds, trees, lengths, cuts
 pub mod Bounds
 pub mod Lengths

@@ -75,6 +75,10 @@ PP-view-clash = file (first ∷ second-hi ∷ first ∷ second-xx ∷ [])
 abbrev pub PP-view-saved : List ℕ
 PP-view-saved = file (first ∷ second-lo ∷ first ∷ second-hi ∷ [])
 
+-- that view with the marks that count
+abbrev pub PP-view-counted : List ℕ
+PP-view-counted = file (first ∷ second ∷ first ∷ second-hi ∷ [])
+
 -- the view of M's contents, with node 1 deleted and node 2 changed to "lo"
 abbrev pub inner-view-both : List ℕ
 inner-view-both = file (line 7 0x00020200010177 ∷ line 8 0x0101010002026C6F ∷ line 7 0x00020000030177 ∷ line 8 0x0101000004026C6F ∷ [])

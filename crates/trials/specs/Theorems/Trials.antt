@@ -15,13 +15,13 @@ use Rattle.runs.specs.Programs.{contents}
 use Rattle.runs.specs.Showing.{Shown}
 use Rattle.calls.specs.Judging.{Judged, judgedShow}
 use Rattle.calls.specs.Outcomes.{Outcome, outcome, cleared, showCall, putBackCall}
-use Rattle.calls.specs.Demands.{ShowLike, PutLike, numberOf, lengthOf, written, ShowDemand2, Given, freshLines, EditedLine, Demand3}
+use Rattle.calls.specs.Demands.{ShowLike, PutLike, numberOf, lengthOf, written, ShowDemand2, Given, freshLines, EditedLine, Demand3, SavedSame}
 use Rattle.calls.specs.Theorems.Demand3.{demand3}
 use Rattle.trials.specs.Theorems.Contracts.{MeetsShow, MeetsPutBack, fails-show-demand2, fails-demand3}
 use Rattle.trials.specs.Theorems.Cases.{line, file, shownNode, putsBack, case, answer, holds, roomyOut, roomyWork, roomy}
-use Rattle.trials.specs.Theorems.Bench.{M, P, PP, whole, inner, P-view, P-view-hi, P-view-saved, PP-view-saved, inner-view-both}
-use Rattle.trials.specs.Theorems.Demand3Cases.{given-on-M, fresh-on-M, unlike, accepted-given, accepted-line, accepted-case}
-use Rattle.trials.specs.Theorems.Demand3Cases.{saved-given, saved-case, alone-given, alone-case, alone-unedited}
+use Rattle.trials.specs.Theorems.Bench.{M, P, PP, whole, inner, P-view, P-view-hi, P-view-saved, PP-view-saved, PP-view-counted, inner-view-both}
+use Rattle.trials.specs.Theorems.Demand3Cases.{M-lines, OnM, given-on-M, fresh-on-M, unlike, accepted-given, accepted-line, accepted-case}
+use Rattle.trials.specs.Theorems.Demand3Cases.{saved-view, saved-given, saved-case, saved-counted, alone-given, alone-case, alone-unedited}
 
 -- ## One that only refuses (demand 3 says when a view is accepted)
 
@@ -105,15 +105,18 @@ M-first = file (line 7 0x00020000000164 ∷ line 7 0x01020200010177 ∷ line 8 0
 abbrev inner-shown : Shown
 inner-shown = record { value = shownNode 0 1 ∷ shownNode 1 2 ∷ shownNode 0 3 ∷ shownNode 1 4 ∷ []; compared = [] }
 
-both-given : Given M inner inner-view-both roomyOut roomyWork
+both-view : OnM inner inner-view-both inner-shown
 unfolding answer
-both-given = given-on-M inner inner-view-both (contents 0) refl inner-shown refl roomyOut roomyWork refl roomy
+both-view = record { read-as = contents 0; reads = refl; shows = refl; passes = refl }
+
+both-given : Given M inner inner-view-both roomyOut roomyWork
+both-given = given-on-M both-view roomyOut roomyWork roomy
 
 -- the second is that of line 1, of node 2
 second-line : EditedLine (freshLines both-given) (nodes inner-view-both) 2 1
 unfolding answer
 second-line =
-    rw (fresh-on-M inner inner-view-both (contents 0) refl inner-shown refl roomyOut roomyWork both-given) (record { edit = inr (refl, unlike (omega arith)); number = refl })
+    rw (fresh-on-M both-view roomyOut roomyWork both-given) (record { edit = inr (refl, unlike (omega arith)); number = refl })
 
 first-honoured : honoursFirst M inner inner-view-both roomyOut roomyWork ≡ outcome 0 0 (length M-first) (putAt roomyOut 0 M-first) (cleared roomyWork)
 unfolding honoursFirst firstEdit isEdit shownLines answer
@@ -147,6 +150,15 @@ saved-marks show put h d =
     let a = d M P P-view-saved roomyOut roomyWork given in
     let ours = (demand3 M P P-view-saved roomyOut roomyWork given) .accepted .0 (alone-case roomyOut roomyWork roomy) in
     h ((a .returned (a .accepted .1 ours)) .unedited 4 (alone-unedited roomyOut roomyWork given 4) .0)
+
+-- example 6 refused, and accepted where line 1 has the mark that counts: that is to go by the mark as written
+pub saved-otherwise : (put : PutLike) → numberOf (put M PP PP-view-saved roomyOut roomyWork) ≡ 11
+    → numberOf (put M PP PP-view-counted roomyOut roomyWork) ≡ 0 → SavedSame put → ⊥
+saved-otherwise put h k same =
+    let v = saved-view in
+    let e = same M PP PP-view-saved (v .read-as) (v .reads) (nodes M) M-lines _ (v .shows) (nodes PP-view-saved) (v .passes) roomyOut roomyWork in
+    let z : _≡_ {A = ℕ} 11 0 = sym h ∙ (ap numberOf e ∙ (ap (λ (s : List ℕ). numberOf (put M PP s roomyOut roomyWork)) saved-counted ∙ k)) in
+    omega arith
 
 -- ## One with an invented length, whatever it is (demand 2 counts the lines)
 
