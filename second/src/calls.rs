@@ -12,6 +12,7 @@ use crate::showing::{Cause, Showing, Stop};
 use crate::standing::Standing;
 use crate::stream::{Call, Case};
 use crate::sweeping;
+use crate::text;
 use crate::tree::{self, Value};
 use crate::view::{self, Sides};
 use std::collections::BTreeSet;
@@ -190,6 +191,9 @@ impl<'a> Desk<'a> {
         if !self.rules.showing.marks_are_kept {
             self.fresh.iter_mut().for_each(|line| line.mark = Mark::Untouched);
         }
+        if !self.rules.showing.padding_is_kept {
+            self.fresh.iter_mut().for_each(|line| text::take_padding_off(&mut line.bytes));
+        }
         Ok(())
     }
 
@@ -270,7 +274,10 @@ fn returned_master(
             Standing::Untouched | Standing::Locked | Standing::Clash => {}
             Standing::Changed(text) => {
                 line.mark = Mark::Changed;
-                line.bytes = text.clone();
+                line.bytes = match rules.new_texts_keep_their_padding {
+                    true => text.clone(),
+                    false => text::unpadded(text).to_vec(),
+                };
             }
             Standing::Deleted => line.mark = Mark::Deleted,
         }

@@ -1,8 +1,10 @@
 //! The committed cases: the bench examples, then seeded cases of show and put back, then the edges
 //! of sweeping, then seeded sweeps, then the edges of saved lines, then seeded views with many of
-//! them. The product's `replay` answers them from a file, which is made from here.
+//! them, then the edges of padded texts, then seeded cases with many of them. The product's
+//! `replay` answers them from a file, which is made from here.
 
-use crate::cases::{self, bench, saved_edges, saves, sweep_edges, sweeps};
+use crate::cases::edge::Edge;
+use crate::cases::{self, bench, padded_edges, pads, saved_edges, saves, sweep_edges, sweeps};
 use crate::stream::Case;
 
 pub const SEED: u64 = 20_071;
@@ -16,9 +18,12 @@ pub const SWEEPS: usize = 500;
 /// How many put backs of views with many saved lines are seeded.
 pub const SAVES: usize = 500;
 
+/// How many shows and put backs over padded texts are seeded.
+pub const PADS: usize = 400;
+
 pub fn cases() -> Vec<Case> {
     let examples = bench::examples().into_iter().map(|example| example.case);
-    examples.chain(seeded()).chain(sweeps()).chain(saves()).collect()
+    examples.chain(seeded()).chain(sweeps()).chain(saves()).chain(pads()).collect()
 }
 
 pub fn seeded() -> Vec<Case> {
@@ -26,8 +31,7 @@ pub fn seeded() -> Vec<Case> {
 }
 
 pub fn sweeps() -> Vec<Case> {
-    let edges = sweep_edges::edges().into_iter().map(|edge| edge.case);
-    edges.chain(seeded_sweeps()).collect()
+    edges_then(sweep_edges::edges(), seeded_sweeps())
 }
 
 pub fn seeded_sweeps() -> Vec<Case> {
@@ -35,10 +39,21 @@ pub fn seeded_sweeps() -> Vec<Case> {
 }
 
 pub fn saves() -> Vec<Case> {
-    let edges = saved_edges::edges().into_iter().map(|edge| edge.case);
-    edges.chain(seeded_saves()).collect()
+    edges_then(saved_edges::edges(), seeded_saves())
 }
 
 pub fn seeded_saves() -> Vec<Case> {
     saves::cases(SEED, SAVES)
+}
+
+pub fn pads() -> Vec<Case> {
+    edges_then(padded_edges::edges(), seeded_pads())
+}
+
+pub fn seeded_pads() -> Vec<Case> {
+    pads::cases(SEED, PADS)
+}
+
+fn edges_then(edges: Vec<Edge>, seeded: Vec<Case>) -> Vec<Case> {
+    edges.into_iter().map(|edge| edge.case).chain(seeded).collect()
 }

@@ -1,5 +1,6 @@
 //! Demand 3 by brute force: the edits are gathered line by line, by number, from the view beside
-//! the fresh one and the numbers compared while that was made. Nothing of putting back is used here.
+//! the fresh one and the numbers compared while that was made. Nothing of putting back is used
+//! here.
 
 use crate::calls::{self, Desk, Reply};
 use crate::node_line::{self, FROM_PROGRAM, Mark, NodeLine};

@@ -1,7 +1,7 @@
 //! The commands of the second program.
 
 use second::calls;
-use second::cases::{self, saves, sweeps};
+use second::cases::{self, pads, saves, sweeps};
 use second::committed;
 use second::demand3;
 use second::file::{self, LONGEST_NODE_FILE, LONGEST_PROGRAM};
@@ -15,7 +15,7 @@ use std::path::Path;
 use std::process::ExitCode;
 
 const USAGE: &str = "usage: second show DIR | putback DIR | sweep DIR | replay | cases SEED COUNT \
-                     | sweeps SEED COUNT | saves SEED COUNT | committed | check";
+                     | sweeps SEED COUNT | saves SEED COUNT | pads SEED COUNT | committed | check";
 
 fn main() -> ExitCode {
     let arguments: Vec<String> = std::env::args().skip(1).collect();
@@ -28,6 +28,7 @@ fn main() -> ExitCode {
         ["cases", seed, count] => write_seeded(cases::case, seed, count),
         ["sweeps", seed, count] => write_seeded(sweeps::case, seed, count),
         ["saves", seed, count] => write_seeded(saves::case, seed, count),
+        ["pads", seed, count] => write_seeded(pads::case, seed, count),
         ["committed"] => write_stream(committed::cases().into_iter()),
         ["check"] => check_input(),
         _ => usage(),

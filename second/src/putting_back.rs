@@ -4,7 +4,7 @@
 //! with standings in its nodes.
 
 use crate::program::{Action, Question, Test, Transformation};
-use crate::rules::{Locking, Rules};
+use crate::rules::{Agreement, Locking, Rules};
 use crate::showing::{Showing, Slot, Stop};
 use crate::standing::Standing;
 use crate::tree::{self, Node, Tree, Value};
@@ -119,11 +119,30 @@ impl<'a> PuttingBack<'a> {
     ) -> Result<Value, Stop> {
         let held = self.showing.holds(test, source)?;
         let branch = if held { yes } else { no };
-        let mut handed_back = self.put_back(branch, source, view)?;
+        let mut handed_back = match self.rules.putting_back.branch_is_the_one_shown {
+            true => self.put_back(branch, source, view)?,
+            false => self.chosen_byte_for_byte(test, (yes, no), source, view)?,
+        };
         if !held && !self.rules.putting_back.both_branches_keep_edits {
             handed_back = source.to_vec();
         }
         self.test(test, held, source, handed_back)
+    }
+
+    /// The mistaken branch; where it cannot have shown the view, the edits are lost.
+    fn chosen_byte_for_byte(
+        &mut self,
+        test: &Test,
+        (yes, no): (&Transformation, &Transformation),
+        source: &[Tree],
+        view: Value,
+    ) -> Result<Value, Stop> {
+        let held = self.showing.holds_by(Agreement::ByteForByte, test, source)?;
+        let branch = if held { yes } else { no };
+        match self.showing.show(branch, source) {
+            Ok(shown) if same_shape(&shown, &view) => self.put_back(branch, source, view),
+            _ => Ok(source.to_vec()),
+        }
     }
 
     fn bind(
@@ -156,14 +175,7 @@ impl<'a> PuttingBack<'a> {
         let Question::Equals(part) = &test.question else {
             return Ok(handed_back);
         };
-        let locking = self.rules.putting_back.locking;
-        let (lock_source, lock_result) = match locking {
-            Locking::Both => (true, true),
-            Locking::SourceOnly => (true, false),
-            Locking::ResultOnly => (false, true),
-            Locking::OnlyWhereEqual => (held, held),
-            Locking::Nothing => (false, false),
-        };
+        let (lock_source, lock_result) = self.locks(test, held, source)?;
         if lock_result {
             let under = self.showing.source_under_equals(source);
             let result = self.showing.show(part, under)?;
@@ -173,6 +185,21 @@ impl<'a> PuttingBack<'a> {
             true => Ok(self.merge(locked(source.to_vec()), &handed_back)),
             false => Ok(handed_back),
         }
+    }
+
+    /// Whether test 11 locks its source, and whether the result of its X: both, unless mistaken.
+    fn locks(&mut self, test: &Test, held: bool, source: &[Tree]) -> Result<(bool, bool), Stop> {
+        Ok(match self.rules.putting_back.locking {
+            Locking::Both => (true, true),
+            Locking::SourceOnly => (true, false),
+            Locking::ResultOnly => (false, true),
+            Locking::OnlyWhereEqual => (held, held),
+            Locking::UnlessPaddingAloneDiffers => {
+                let lock = held == self.showing.holds_by(Agreement::ByteForByte, test, source)?;
+                (lock, lock)
+            }
+            Locking::Nothing => (false, false),
+        })
     }
 }
 
@@ -185,6 +212,11 @@ fn around(source: &[Tree], standing: Standing, contents: Value) -> Value {
         }
         _ => unreachable!("showing stops where the source is not one element"),
     }
+}
+
+fn same_shape(one: &[Tree], other: &[Tree]) -> bool {
+    let alike = |(one, other): (&Tree, &Tree)| same_shape(one.contents(), other.contents());
+    one.len() == other.len() && one.iter().zip(other).all(alike)
 }
 
 fn locked(mut value: Value) -> Value {

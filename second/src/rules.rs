@@ -1,6 +1,6 @@
-//! What document 01 and requests #101 and #103 fix, as values. `Rules::document()` is what they
-//! say; the tests change one value at a time to see that the committed cases tell each wrong reading
-//! apart.
+//! What document 01 and requests #101, #103 and #104 fix, as values. `Rules::document()` is what
+//! they say; the tests change one value at a time to see that the committed cases tell each wrong
+//! reading apart.
 
 #[derive(Clone, Debug)]
 pub struct Rules {
@@ -59,9 +59,37 @@ pub struct Showing {
     pub bind_runs_on_nothing: bool,
     pub equals_runs_on_nothing: bool,
     pub equals_checks_its_source_first: bool,
-    pub equals_sees_spaces_behind: bool,
+    pub equals_by: Agreement,
     pub tests_stop_for_their_source: bool,
     pub marks_are_kept: bool,
+    pub padding_is_kept: bool,
+}
+
+/// When test 11 says yes. The padding of a text is the spaces behind its last other byte.
+#[derive(Clone, Copy, Debug, PartialEq, Eq)]
+pub enum Agreement {
+    ButForPadding,
+    Always,
+    Never,
+    ByteForByte,
+    ButForPaddingOfSource,
+    ButForPaddingOfResult,
+    ButForOneSpaceBehind,
+    ButForSpacesAround,
+    ButForSpaces,
+    BeforeTheFirstSpace,
+    ButForTabsToo,
+    ButForLineEndsToo,
+    ButForByte00Too,
+    ButForByteA0Too,
+    SpacesAloneKeepAll,
+    SpacesAloneKeepOne,
+    // The rest look at texts without their padding.
+    UpToTheShorter,
+    Lengths,
+    BehindTheFirstByte,
+    BeforeTheLastByte,
+    InEitherCase,
 }
 
 #[derive(Clone, Debug)]
@@ -72,10 +100,12 @@ pub struct PuttingBack {
     pub slot_edits_are_kept: bool,
     pub slot_edits_are_merged: bool,
     pub beside_keeps_both: bool,
+    pub branch_is_the_one_shown: bool,
     pub both_branches_keep_edits: bool,
     pub within_takes_the_mark: bool,
     pub deletion_spreads: bool,
     pub deleted_keep_their_contents: bool,
+    pub new_texts_keep_their_padding: bool,
 }
 
 #[derive(Clone, Copy, Debug, PartialEq, Eq)]
@@ -87,6 +117,8 @@ pub enum Merging {
     EqualsClash,
     DeletedBeatsLocked,
     ClashYields,
+    ButForPadding,
+    PaddingIsNotLocked,
 }
 
 #[derive(Clone, Copy, Debug, PartialEq, Eq)]
@@ -95,6 +127,7 @@ pub enum Locking {
     SourceOnly,
     ResultOnly,
     OnlyWhereEqual,
+    UnlessPaddingAloneDiffers,
     Nothing,
 }
 
@@ -138,7 +171,7 @@ pub enum OldText {
 pub enum Comparison {
     ByteForByte,
     Lengths,
-    BeforeSpacesBehind,
+    ButForPadding,
     UpToTheShorter,
     BeforeByte00,
     BehindTheFirstByte,
@@ -204,6 +237,7 @@ pub struct Judging {
     pub count_place: CountPlace,
     pub numbers_are_compared: bool,
     pub deleted_bytes_are_compared: bool,
+    pub padding_is_compared: bool,
     pub program_marks_are_read_as_written: bool,
     pub clash_place: ClashPlace,
 }
@@ -299,9 +333,10 @@ impl Showing {
             bind_runs_on_nothing: true,
             equals_runs_on_nothing: true,
             equals_checks_its_source_first: true,
-            equals_sees_spaces_behind: true,
+            equals_by: Agreement::ButForPadding,
             tests_stop_for_their_source: true,
             marks_are_kept: true,
+            padding_is_kept: true,
         }
     }
 }
@@ -315,10 +350,12 @@ impl PuttingBack {
             slot_edits_are_kept: true,
             slot_edits_are_merged: true,
             beside_keeps_both: true,
+            branch_is_the_one_shown: true,
             both_branches_keep_edits: true,
             within_takes_the_mark: true,
             deletion_spreads: false,
             deleted_keep_their_contents: true,
+            new_texts_keep_their_padding: true,
         }
     }
 }
@@ -368,6 +405,7 @@ impl Judging {
             count_place: CountPlace::Shorter,
             numbers_are_compared: true,
             deleted_bytes_are_compared: true,
+            padding_is_compared: true,
             program_marks_are_read_as_written: true,
             clash_place: ClashPlace::Least,
         }

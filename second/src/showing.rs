@@ -1,7 +1,7 @@
 //! Showing: a transformation run on a source, tests and transformations in turn.
 
 use crate::program::{Action, Question, Test, Transformation};
-use crate::rules::Rules;
+use crate::rules::{Agreement, Rules};
 use crate::text;
 use crate::tree::{self, Node, Tree, Value};
 use std::collections::BTreeSet;
@@ -182,9 +182,19 @@ impl<'a> Showing<'a> {
     }
 
     pub fn holds(&mut self, test: &Test, source: &[Tree]) -> Result<bool, Stop> {
+        self.holds_by(self.rules.showing.equals_by, test, source)
+    }
+
+    /// A test's answer, that of test 11 by some agreement.
+    pub fn holds_by(
+        &mut self,
+        agreement: Agreement,
+        test: &Test,
+        source: &[Tree],
+    ) -> Result<bool, Stop> {
         let stop = Stop { cause: Cause::Source, place: test.place };
         match (&test.question, source) {
-            (Question::Equals(part), _) => self.equals(part, source, stop),
+            (Question::Equals(part), _) => self.equals(agreement, part, source, stop),
             (Question::Tagged(asked), [Tree::Element { tag, .. }]) => Ok(text::equal(tag, asked)),
             (Question::IsElement, [tree]) => Ok(matches!(tree, Tree::Element { .. })),
             _ if !self.rules.showing.tests_stop_for_their_source => Ok(false),
@@ -192,7 +202,13 @@ impl<'a> Showing<'a> {
         }
     }
 
-    fn equals(&mut self, part: &Transformation, source: &[Tree], stop: Stop) -> Result<bool, Stop> {
+    fn equals(
+        &mut self,
+        agreement: Agreement,
+        part: &Transformation,
+        source: &[Tree],
+        stop: Stop,
+    ) -> Result<bool, Stop> {
         if self.rules.showing.equals_checks_its_source_first {
             one_text(source).ok_or(stop)?;
         }
@@ -201,7 +217,7 @@ impl<'a> Showing<'a> {
         let (result_node, result_text) = one_text(&result).ok_or(stop)?;
         self.compared.extend(source_node.origin);
         self.compared.extend(result_node.origin);
-        Ok(text::agree(source_text, result_text, &self.rules.showing))
+        Ok(text::agree(source_text, result_text, agreement))
     }
 
     /// Test 11 runs its X on nothing.

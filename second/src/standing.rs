@@ -12,9 +12,10 @@ pub enum Standing {
     Clash,
 }
 
-/// Untouched gives way to the other; two equal standings stay; all other pairs clash.
-pub fn merge(one: &Standing, other: &Standing, merging: Merging) -> Standing {
-    if let Some(wrong) = merged_wrongly(one, other, merging) {
+/// Untouched gives way to the other; two equal standings stay; all other pairs clash. What the old
+/// text is makes no difference, unless mistaken.
+pub fn merge(one: &Standing, other: &Standing, old_text: &[u8], merging: Merging) -> Standing {
+    if let Some(wrong) = merged_wrongly(one, other, old_text, merging) {
         return wrong;
     }
     match (one, other) {
@@ -36,7 +37,12 @@ fn same(one: &Standing, other: &Standing) -> bool {
 }
 
 /// The mistaken mergings, each where it answers otherwise than document 01.
-fn merged_wrongly(one: &Standing, other: &Standing, merging: Merging) -> Option<Standing> {
+fn merged_wrongly(
+    one: &Standing,
+    other: &Standing,
+    old_text: &[u8],
+    merging: Merging,
+) -> Option<Standing> {
     use Standing::{Changed, Clash, Deleted, Locked, Untouched};
     match (merging, one, other) {
         (Merging::FirstWins, Changed(_) | Deleted, Changed(_) | Deleted) => Some(one.clone()),
@@ -49,6 +55,17 @@ fn merged_wrongly(one: &Standing, other: &Standing, merging: Merging) -> Option<
         | (Merging::DeletedBeatsLocked, Locked, Deleted) => Some(Deleted),
         (Merging::ClashYields, Clash, kept) | (Merging::ClashYields, kept, Clash) => {
             Some(kept.clone())
+        }
+        (Merging::ButForPadding, Changed(text), Changed(new_text))
+            if text::equal_but_for_padding(text, new_text) =>
+        {
+            Some(one.clone())
+        }
+        (Merging::PaddingIsNotLocked, Locked, Changed(text))
+        | (Merging::PaddingIsNotLocked, Changed(text), Locked)
+            if text::equal_but_for_padding(text, old_text) =>
+        {
+            Some(Changed(text.clone()))
         }
         _ => None,
     }

@@ -40,6 +40,13 @@ impl Tree {
         }
     }
 
+    /// Its text, or its tag.
+    pub fn bytes(&self) -> &[u8] {
+        match self {
+            Tree::Text { text: bytes, .. } | Tree::Element { tag: bytes, .. } => bytes,
+        }
+    }
+
     pub fn contents(&self) -> &[Tree] {
         match self {
             Tree::Text { .. } => &[],
@@ -88,13 +95,13 @@ pub fn to_lines(value: &[Tree]) -> Vec<NodeLine> {
 
 fn lay_out(value: &[Tree], depth: u8, lines: &mut Vec<NodeLine>) {
     for tree in value {
-        let (kind, bytes) = match tree {
-            Tree::Text { text, .. } => (Kind::Text, text),
-            Tree::Element { tag, .. } => (Kind::Element, tag),
+        let kind = match tree {
+            Tree::Text { .. } => Kind::Text,
+            Tree::Element { .. } => Kind::Element,
         };
         let node = tree.node();
         let number = node.origin.unwrap_or(FROM_PROGRAM);
-        lines.push(NodeLine { depth, kind, mark: node.mark, number, bytes: bytes.clone() });
+        lines.push(NodeLine { depth, kind, mark: node.mark, number, bytes: tree.bytes().to_vec() });
         lay_out(tree.contents(), depth + 1, lines);
     }
 }
@@ -114,8 +121,8 @@ pub fn merge(one: Value, other: &[Tree], merging: Merging) -> Value {
     one.into_iter()
         .zip(other)
         .map(|(mut tree, other)| {
-            let merged = standing::merge(&tree.node().standing, &other.node().standing, merging);
-            tree.node_mut().standing = merged;
+            let [one, two] = [&tree, other].map(|tree| &tree.node().standing);
+            tree.node_mut().standing = standing::merge(one, two, tree.bytes(), merging);
             if let Tree::Element { contents, .. } = &mut tree {
                 *contents = merge(std::mem::take(contents), other.contents(), merging);
             }

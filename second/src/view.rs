@@ -34,10 +34,14 @@ fn differs(fresh: &NodeLine, line: &NodeLine, rules: &Judging) -> bool {
         Mark::Changed => true,
         Mark::Deleted => !rules.deleted_bytes_are_compared,
     };
+    let same_bytes = match rules.padding_is_compared {
+        true => text::equal(&fresh.bytes, &line.bytes),
+        false => text::equal_but_for_padding(&fresh.bytes, &line.bytes),
+    };
     fresh.depth != line.depth
         || fresh.kind != line.kind
         || (rules.numbers_are_compared && fresh.number != line.number)
-        || (!bytes_may_differ && !text::equal(&fresh.bytes, &line.bytes))
+        || (!bytes_may_differ && !same_bytes)
 }
 
 /// The place of reply 10: the first line from the program that has a mark, as it is written.

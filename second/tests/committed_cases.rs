@@ -1,13 +1,17 @@
 //! The committed cases: which they are; how often each reply occurs among the seeded ones, what
-//! their programs are made of, what their sweeps remove, and beside what their saved lines stand.
+//! their programs are made of, what their sweeps remove, beside what their saved lines stand, what
+//! their padded views are edited in, and how often padding decides.
+
+mod common;
 
 use second::calls::{self, Desk};
-use second::cases::{bench, saved_edges, sweep_edges};
+use second::cases::{bench, padded_edges, saved_edges, sweep_edges};
 use second::committed;
 use second::entry::{self, Entry};
 use second::node_line::{self, FROM_PROGRAM, Mark, NodeLine};
-use second::rules::Rules;
+use second::rules::{Agreement, Rules};
 use second::stream::{Call, Case};
+use second::text;
 use std::collections::BTreeMap;
 
 /// How often each reply occurs, by call and number.
@@ -73,32 +77,41 @@ fn the_stream_begins_with_the_bench_examples() {
 }
 
 #[test]
-fn the_sweeps_stand_behind_the_first_cases_and_the_saved_lines_behind_the_sweeps() {
+fn each_request_has_its_cases_behind_those_before_it() {
     let cases = committed::cases();
+    let [sweep_edges, saved_edges, padded_edges] =
+        [sweep_edges::edges(), saved_edges::edges(), padded_edges::edges()]
+            .map(|edges| edges.into_iter().map(|edge| edge.case).collect::<Vec<Case>>());
     let (first, behind) = cases.split_at(bench::examples().len() + committed::COUNT);
-    let sweep_edges: Vec<Case> = sweep_edges::edges().into_iter().map(|edge| edge.case).collect();
-    let (sweeps, saves) = behind.split_at(sweep_edges.len() + committed::SWEEPS);
+    let (sweeps, behind) = behind.split_at(sweep_edges.len() + committed::SWEEPS);
+    let (saves, pads) = behind.split_at(saved_edges.len() + committed::SAVES);
+    assert_eq!(pads.len(), padded_edges.len() + committed::PADS);
     assert!(first.iter().all(|case| case.call != Call::Sweep));
     assert!(sweeps.iter().all(|case| case.call == Call::Sweep));
     assert!(saves.iter().all(|case| case.call == Call::PutBack));
+    assert!(pads.iter().all(|case| case.call != Call::Sweep));
     assert!(sweeps.starts_with(&sweep_edges));
-    let saved_edges: Vec<Case> = saved_edges::edges().into_iter().map(|edge| edge.case).collect();
     assert!(saves.starts_with(&saved_edges));
-    assert_eq!(saves.len(), saved_edges.len() + committed::SAVES);
+    assert!(pads.starts_with(&padded_edges));
+}
+
+/// That the cases get these replies, each in so many of a hundred, and that most of them get 0.
+fn often_replied(cases: &[Case], numbers: &[u8], in_a_hundred: usize) {
+    let rules = Rules::document();
+    let mut replies: BTreeMap<u8, usize> = BTreeMap::new();
+    for case in cases {
+        *replies.entry(calls::answer(case, &rules).number).or_default() += 1;
+    }
+    assert_eq!(replies.keys().copied().collect::<Vec<_>>(), numbers);
+    assert!(replies[&0] * 2 > cases.len(), "{} of {} are done", replies[&0], cases.len());
+    for (number, times) in replies {
+        assert!(times * 100 >= cases.len() * in_a_hundred, "reply {number} occurs {times} times");
+    }
 }
 
 #[test]
 fn each_reply_to_a_sweep_occurs_often() {
-    let rules = Rules::document();
-    let mut replies: BTreeMap<u8, usize> = BTreeMap::new();
-    for case in committed::seeded_sweeps() {
-        *replies.entry(calls::answer(&case, &rules).number).or_default() += 1;
-    }
-    assert_eq!(replies.keys().copied().collect::<Vec<_>>(), [0, 1, 4, 5]);
-    assert!(replies[&0] * 2 > committed::SWEEPS, "{} sweeps are done", replies[&0]);
-    for (number, times) in replies {
-        assert!(times * 100 >= committed::SWEEPS * 8, "reply {number} occurs {times} times");
-    }
+    often_replied(&committed::seeded_sweeps(), &[0, 1, 4, 5], 8);
 }
 
 #[test]
@@ -125,16 +138,7 @@ fn the_sweeps_have_much_to_remove() {
 
 #[test]
 fn each_reply_to_a_view_with_saved_lines_occurs_often() {
-    let rules = Rules::document();
-    let mut replies: BTreeMap<u8, usize> = BTreeMap::new();
-    for case in committed::seeded_saves() {
-        *replies.entry(calls::answer(&case, &rules).number).or_default() += 1;
-    }
-    assert_eq!(replies.keys().copied().collect::<Vec<_>>(), [0, 9, 10, 11]);
-    assert!(replies[&0] * 2 > committed::SAVES, "{} views are accepted", replies[&0]);
-    for (number, times) in replies {
-        assert!(times * 100 >= committed::SAVES * 5, "reply {number} occurs {times} times");
-    }
+    often_replied(&committed::seeded_saves(), &[0, 9, 10, 11], 5);
 }
 
 /// The lines marked 01 that have their old text.
@@ -166,6 +170,58 @@ fn the_saved_lines_stand_beside_edits_and_are_compared() {
     assert!(deleted > 20, "in {deleted} a saved line has a deleted copy");
     assert!(compared > 50, "in {compared} a saved line's text is compared");
     assert!(unedited > 50, "in {unedited} nothing is edited");
+}
+
+#[test]
+fn each_reply_to_a_case_of_padded_texts_occurs_often() {
+    often_replied(&committed::seeded_pads(), &[0, 9, 11], 8);
+}
+
+/// The views put back over padded texts: their lines, each behind the fresh one.
+fn padded_views() -> Vec<Vec<(NodeLine, NodeLine)>> {
+    let rules = Rules::document();
+    let lines = |case: Case| {
+        let mut desk = Desk::new(&case, &rules);
+        let _any_reply = rules.judging.order.iter().try_for_each(|&stage| desk.judge(stage));
+        desk.fresh.into_iter().zip(desk.view).collect()
+    };
+    let cases = committed::seeded_pads().into_iter();
+    cases.filter(|case| case.call == Call::PutBack).map(lines).collect()
+}
+
+#[test]
+fn most_padded_views_are_edited() {
+    let views = padded_views();
+    let is_edit = |(fresh, line): &(NodeLine, NodeLine)| {
+        line.mark == Mark::Deleted || line.bytes != fresh.bytes
+    };
+    let edited = views.iter().filter(|lines| lines.iter().any(is_edit)).count();
+    assert!(edited * 10 >= views.len() * 8, "{edited} of {}", views.len());
+}
+
+#[test]
+fn padded_views_differ_in_padding_alone_where_they_may_not() {
+    let views = padded_views();
+    let mut differing = 0;
+    for (fresh, line) in views.iter().flatten() {
+        if line.mark != Mark::Changed && line.bytes != fresh.bytes {
+            assert!(text::equal_but_for_padding(&line.bytes, &fresh.bytes), "{line:?}");
+            differing += 1;
+        }
+    }
+    assert!(differing * 7 >= views.len(), "{differing} of {}", views.len());
+}
+
+#[test]
+fn padding_often_decides_and_both_answers_of_test_11_count() {
+    let cases = common::rightly_answered(committed::seeded_pads());
+    let in_a_hundred =
+        [(Agreement::ByteForByte, 40), (Agreement::Always, 50), (Agreement::Never, 50)];
+    for (agreement, least) in in_a_hundred {
+        let otherwise =
+            common::answered_otherwise(&cases, |rules| rules.showing.equals_by = agreement);
+        assert!(otherwise * 100 >= cases.len() * least, "{agreement:?}: {otherwise} of them");
+    }
 }
 
 #[test]

@@ -1,5 +1,7 @@
 //! Demand 3 by brute force, and the fresh view put back, on generated cases.
 
+mod common;
+
 use second::calls;
 use second::cases;
 use second::committed;
@@ -10,16 +12,7 @@ use second::verdict::Verdict;
 
 #[test]
 fn demand_3_holds_on_generated_cases() {
-    let rules = Rules::document();
-    let mut checked = 0;
-    for (index, case) in cases::cases(3, 20_000).iter().enumerate() {
-        match demand3::check(case, &rules) {
-            Verdict::Violated => panic!("case {index} violates demand 3"),
-            Verdict::Holds => checked += 1,
-            Verdict::DoesNotApply => {}
-        }
-    }
-    assert!(checked > 5_000, "only {checked} cases were checked");
+    common::demand_3_holds_on_more_than(5_000, &cases::cases(3, 20_000));
 }
 
 #[test]

@@ -1,13 +1,13 @@
 //! Saved lines: the edges written by hand, demand 3 on views with many of them, and that saving
 //! alters no answer.
 
+mod common;
+
 use second::calls;
 use second::cases::{self, saved_edges, saves};
-use second::demand3;
 use second::node_line::{self, FROM_PROGRAM, Kind, Mark, NodeLine};
 use second::rules::Rules;
 use second::stream::{Call, Case};
-use second::verdict::Verdict;
 
 #[test]
 fn each_edge_gets_the_requested_reply() {
@@ -19,14 +19,7 @@ fn each_edge_gets_the_requested_reply() {
 
 #[test]
 fn demand_3_holds_on_views_with_many_saved_lines() {
-    let rules = Rules::document();
-    let mut checked = 0;
-    for (index, case) in saves::cases(7, 5_000).iter().enumerate() {
-        let verdict = demand3::check(case, &rules);
-        assert_ne!(verdict, Verdict::Violated, "case {index} violates demand 3");
-        checked += usize::from(verdict == Verdict::Holds);
-    }
-    assert!(checked > 3_000, "only {checked} cases were checked");
+    common::demand_3_holds_on_more_than(3_000, &saves::cases(7, 5_000));
 }
 
 /// The case with a change to the texts of the master in its view that equal the fresh ones but for

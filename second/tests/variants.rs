@@ -1,13 +1,15 @@
-//! Deliberately wrong readings of document 01 and of requests #101 and #103, each of which the
-//! committed cases tell apart: those of saved lines by an edge and again by a seeded view with many
-//! of them; those of sweeping, and what it takes over, by sweeps alone.
+//! Deliberately wrong readings of document 01 and of requests #101, #103 and #104, each of which
+//! the committed cases tell apart: those of saved lines and of padded texts by an edge of theirs
+//! and again by a seeded case with many of them; those of sweeping, and what it takes over, by
+//! sweeps alone.
 
-use second::calls;
-use second::cases::saved_edges;
+mod common;
+
+use second::cases::{padded_edges, saved_edges};
 use second::committed;
 use second::demand3;
 use second::rules::{
-    ClashPlace, Comparison, CountPlace, EditsGoBy, Goes, Locking, MarkedMaster, Merging,
+    Agreement, ClashPlace, Comparison, CountPlace, EditsGoBy, Goes, Locking, MarkedMaster, Merging,
     NumberLines, OldText, Rules, SavedEffect, SavedMarks, Stage,
 };
 use second::stream::{Call, Case};
@@ -30,7 +32,7 @@ const WRONG_ROOMS_AND_LINES: [Variant; 12] = [
     ("a master may be 8 deep", |rules| rules.bounds.master_depth = 8),
 ];
 
-const WRONG_PROGRAMS_AND_RUNS: [Variant; 18] = [
+const WRONG_PROGRAMS_AND_RUNS: [Variant; 17] = [
     ("level 13 is allowed", |rules| rules.bounds.levels = 13),
     ("a fourth 0A is allowed", |rules| rules.bounds.eaches = 4),
     ("a fifth 0C is allowed", |rules| rules.bounds.binds = 5),
@@ -48,9 +50,6 @@ const WRONG_PROGRAMS_AND_RUNS: [Variant; 18] = [
     ("11 runs X on the source", |rules| rules.showing.equals_runs_on_nothing = false),
     ("11 checks its source behind X", |rules| {
         rules.showing.equals_checks_its_source_first = false;
-    }),
-    ("11 overlooks spaces behind a text", |rules| {
-        rules.showing.equals_sees_spaces_behind = false;
     }),
     ("12 and 13 say no where they should stop", |rules| {
         rules.showing.tests_stop_for_their_source = false;
@@ -97,6 +96,11 @@ const WRONG_PUT_BACKS: [Variant; 19] = [
     }),
 ];
 
+const ANOTHER_PADDING_IS_SAVED: Variant =
+    ("a line with another padding was saved without touching", |rules| {
+        rules.saving.comparison = Comparison::ButForPadding;
+    });
+
 /// Reply 9 by the mark that counts is none of them: it compares the bytes of a saved line too, and
 /// finds them equal.
 const WRONG_SAVES: [Variant; 20] = [
@@ -122,9 +126,7 @@ const WRONG_SAVES: [Variant; 20] = [
     ("a text as long as the old one is the old one", |rules| {
         rules.saving.comparison = Comparison::Lengths;
     }),
-    ("spaces behind a text are not seen", |rules| {
-        rules.saving.comparison = Comparison::BeforeSpacesBehind;
-    }),
+    ANOTHER_PADDING_IS_SAVED,
     ("texts are compared up to the end of the shorter one", |rules| {
         rules.saving.comparison = Comparison::UpToTheShorter;
     }),
@@ -155,6 +157,78 @@ const WRONG_SAVES: [Variant; 20] = [
     }),
     ("a saved line undoes the edit of its copies", |rules| {
         rules.saving.effect = SavedEffect::UndoesTheEdit;
+    }),
+];
+
+const WRONG_AGREEMENTS: [Variant; 20] = [
+    ("11 always says yes", |rules| rules.showing.equals_by = Agreement::Always),
+    ("11 always says no", |rules| rules.showing.equals_by = Agreement::Never),
+    ("11 compares byte for byte", |rules| rules.showing.equals_by = Agreement::ByteForByte),
+    ("11 takes the padding off its source only", |rules| {
+        rules.showing.equals_by = Agreement::ButForPaddingOfSource;
+    }),
+    ("11 takes the padding off the text of X only", |rules| {
+        rules.showing.equals_by = Agreement::ButForPaddingOfResult;
+    }),
+    ("11 takes one space off", |rules| {
+        rules.showing.equals_by = Agreement::ButForOneSpaceBehind;
+    }),
+    ("11 takes off the spaces in front too", |rules| {
+        rules.showing.equals_by = Agreement::ButForSpacesAround;
+    }),
+    ("11 takes out all spaces", |rules| rules.showing.equals_by = Agreement::ButForSpaces),
+    ("11 compares up to the first space", |rules| {
+        rules.showing.equals_by = Agreement::BeforeTheFirstSpace;
+    }),
+    ("11 takes off bytes 09 too", |rules| rules.showing.equals_by = Agreement::ButForTabsToo),
+    ("11 takes off bytes 0A and 0D too", |rules| {
+        rules.showing.equals_by = Agreement::ButForLineEndsToo;
+    }),
+    ("11 takes off bytes 00 too", |rules| rules.showing.equals_by = Agreement::ButForByte00Too),
+    ("11 takes off bytes A0 too", |rules| rules.showing.equals_by = Agreement::ButForByteA0Too),
+    ("11 keeps the padding of a text of spaces alone", |rules| {
+        rules.showing.equals_by = Agreement::SpacesAloneKeepAll;
+    }),
+    ("11 keeps one space of a text of spaces alone", |rules| {
+        rules.showing.equals_by = Agreement::SpacesAloneKeepOne;
+    }),
+    ("11 compares up to the end of the shorter text", |rules| {
+        rules.showing.equals_by = Agreement::UpToTheShorter;
+    }),
+    ("11 compares the lengths before the padding only", |rules| {
+        rules.showing.equals_by = Agreement::Lengths;
+    }),
+    ("11 does not look at the first byte", |rules| {
+        rules.showing.equals_by = Agreement::BehindTheFirstByte;
+    }),
+    ("11 does not look at the last byte before the padding", |rules| {
+        rules.showing.equals_by = Agreement::BeforeTheLastByte;
+    }),
+    ("11 takes letters in either case as equal", |rules| {
+        rules.showing.equals_by = Agreement::InEitherCase;
+    }),
+];
+
+/// The padding overlooked where the bytes count. Tags are none of them: they have no byte 20, so
+/// that test 12 says the same by either comparison.
+const WRONG_USES_OF_PADDING: [Variant; 8] = [
+    ("shown texts lose their padding", |rules| rules.showing.padding_is_kept = false),
+    ("9 overlooks the padding", |rules| rules.judging.padding_is_compared = false),
+    ANOTHER_PADDING_IS_SAVED,
+    ("changes that differ in padding are equal", |rules| {
+        rules.putting_back.merging = Merging::ButForPadding;
+    }),
+    ("the padding of a compared text is not locked", |rules| {
+        rules.putting_back.merging = Merging::PaddingIsNotLocked;
+    }),
+    ("texts that agree but for their padding are not locked", |rules| {
+        rules.putting_back.locking = Locking::UnlessPaddingAloneDiffers;
+    }),
+    ("a new text loses its padding when handed back", |rules| {
+        rules.putting_back.new_texts_keep_their_padding = false;
+    }),
+    ("0B puts back the branch that whole texts choose", |rules| {
+        rules.putting_back.branch_is_the_one_shown = false;
     }),
 ];
 
@@ -301,16 +375,11 @@ fn told_apart_by_sweeps(variants: &[Variant]) {
 
 /// In how many of the cases each variant answers otherwise.
 fn told_apart_by(cases: impl Iterator<Item = Case>, variants: &[Variant]) {
-    let cases: Vec<Case> = cases.collect();
-    let document = Rules::document();
-    let right: Vec<_> = cases.iter().map(|case| calls::answer(case, &document)).collect();
+    let cases = common::rightly_answered(cases);
     for (name, change) in variants {
-        let mut rules = Rules::document();
-        change(&mut rules);
-        let answers = cases.iter().map(|case| calls::answer(case, &rules));
-        let different = answers.zip(&right).filter(|(answer, right)| answer != *right).count();
-        println!("{different:5} {name}");
-        assert!(different > 0, "no committed case tells apart: {name}");
+        let otherwise = common::answered_otherwise(&cases, change);
+        println!("{otherwise:5} {name}");
+        assert!(otherwise > 0, "no committed case tells apart: {name}");
     }
 }
 
@@ -344,17 +413,39 @@ fn wrong_readings_of_saved_lines_are_told_apart_by_seeded_views() {
     told_apart_by(committed::seeded_saves().into_iter(), &WRONG_SAVES);
 }
 
-#[test]
-fn wrong_readings_of_saved_lines_are_seen_by_brute_force() {
-    let saves = committed::saves();
+/// That demand 3 does not hold on the cases by any of the variants.
+fn seen_by_brute_force(cases: &[Case], variants: &[Variant]) {
     let violated =
-        |rules: &Rules| saves.iter().any(|case| demand3::check(case, rules) == Verdict::Violated);
-    for (name, change) in WRONG_SAVES {
+        |rules: &Rules| cases.iter().any(|case| demand3::check(case, rules) == Verdict::Violated);
+    for (name, change) in variants {
         let mut rules = Rules::document();
         change(&mut rules);
         assert!(violated(&rules), "demand 3 holds though {name}");
     }
     assert!(!violated(&Rules::document()));
+}
+
+#[test]
+fn wrong_readings_of_saved_lines_are_seen_by_brute_force() {
+    seen_by_brute_force(&committed::saves(), &WRONG_SAVES);
+}
+
+#[test]
+fn wrong_readings_of_padded_texts_are_told_apart_by_the_edges() {
+    let edges = || padded_edges::edges().into_iter().map(|edge| edge.case);
+    told_apart_by(edges(), &WRONG_AGREEMENTS);
+    told_apart_by(edges(), &WRONG_USES_OF_PADDING);
+}
+
+#[test]
+fn wrong_readings_of_padded_texts_are_told_apart_by_seeded_cases() {
+    told_apart_by(committed::seeded_pads().into_iter(), &WRONG_AGREEMENTS);
+    told_apart_by(committed::seeded_pads().into_iter(), &WRONG_USES_OF_PADDING);
+}
+
+#[test]
+fn wrong_uses_of_padding_are_seen_by_brute_force() {
+    seen_by_brute_force(&committed::pads(), &WRONG_USES_OF_PADDING);
 }
 
 #[test]

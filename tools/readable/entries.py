@@ -22,7 +22,7 @@ OPERATIONS = {
     0x0A: Operation("each", NO_OPERAND, 1, "the next on each top node, joined"),
     0x0B: Operation("choose", NO_OPERAND, 3, "if the test says yes the first, else the second"),
     0x0C: Operation("bind", SLOT, 1, "bind the slot to the source, run the next on nothing"),
-    0x11: Operation("equals", NO_OPERAND, 1, "test: the source text equals the next run on nothing"),
+    0x11: Operation("equals", NO_OPERAND, 1, "test: the source text equals the next run on nothing, end spaces aside"),
     0x12: Operation("tagged", TEXT, 0, "test: an element with this tag"),
     0x13: Operation("is-element", NO_OPERAND, 0, "test: is an element"),
 }

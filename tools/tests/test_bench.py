@@ -35,6 +35,15 @@ bind A3
     slot A3
 """
 
+OPERANDS_BESIDE_HEX = b"""program
+bind A3          # entry 0: 0CA3 bind the slot to the source, run the next on nothing
+  choose         # entry 1: 0B   if the test says yes the first, else the second
+    equals       # entry 2: 11   test: the source text equals the next run on nothing, end spaces aside
+      text "hi"  # entry 3: 03026869 a text from the program
+    tag "a"      # entry 4: 040161 an empty element from the program
+    slot A3      # entry 5: 05A3 the value of the slot
+"""
+
 PROGRAM_BESIDE_HEX = b"""program
 and-then      # entry 0: 08   the first, then the second on its result
   contents    # entry 1: 06   the contents of an element
@@ -71,6 +80,7 @@ class Bench(unittest.TestCase):
         lines = b"0CA3\n0B\n11\n03026869\n040161\n05A3\n"
         self.assertEqual(meadcinder("hex", "-", given=WITH_OPERANDS), (lines, "", 0))
         self.assertEqual(meadcinder("print", "program", "-", given=lines), (WITH_OPERANDS, "", 0))
+        self.assertEqual(meadcinder("print", "--hex", "program", "-", given=lines), (OPERANDS_BESIDE_HEX, "", 0))
 
     def test_what_is_left_over_behind_the_tree_stands_at_the_margin(self):
         lines = b"0A\n01\n13\n120177\n"

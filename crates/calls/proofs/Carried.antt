@@ -14,10 +14,11 @@ use Rattle.lines.specs.Nodes.{Line, changedMark, deletedMark, noLine}
 use Rattle.lines.specs.Verdicts.{reply, firstFrom}
 use Rattle.lines.specs.Views.{markCounted, countedLine, countedLines}
 use Rattle.lines.specs.Theorems.CountedMarks.{counted-length, counted-text}
+use Rattle.lines.specs.Theorems.SameTexts.{sameText-sound, sameText-refl}
 use Rattle.values.specs.Values.{Value, isFrom}
 use Rattle.values.specs.Standings.{Standing, untouched, changed, deleted, isClash, firstOf, restOf, gathered, says, brings, handsBack}
 use Rattle.values.specs.Engine.Words.{standingOf, Named, AllNamed}
-use Rattle.values.specs.Theorems.MergeLaws.{sameText-sound, sameText-refl, unit-left, unit-right}
+use Rattle.values.specs.Theorems.MergeLaws.{unit-left, unit-right}
 use Rattle.values.specs.Theorems.Copies.{standingAt}
 use Rattle.runs.specs.Results.{gives, stops}
 use Rattle.runs.specs.Programs.{Transformation}

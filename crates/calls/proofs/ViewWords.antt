@@ -14,7 +14,7 @@ use Rattle.lines.specs.Theorems.CountedMarks.{counted-length, counted-at}
 use Rattle.lines.specs.Theorems.Lists.{map-at}
 use Rattle.lines.specs.Theorems.LinesAt.{nodes-one, line-at, text-at}
 use Rattle.lines.specs.Engine.Starts.{textAt, nodeAt, linesOf}
-use Rattle.values.specs.Theorems.MergeLaws.{sameText-refl}
+use Rattle.lines.specs.Theorems.SameTexts.{sameText-refl}
 use Rattle.calls.specs.Engine.Parts.{firstWith, broughtWord, broughtWords}
 
 -- ## The first line with a text

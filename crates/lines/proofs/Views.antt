@@ -1,31 +1,22 @@
 -- Steps of the comparisons: of two texts, and of a view's lines with the fresh ones.
 use mathlib.Core.Path.{_≡_, refl, sym, ap, _∙_}
-use mathlib.Core.Bool.{Bool, true, false, _&&_}
+use mathlib.Core.Bool.{true, false}
 use mathlib.Core.List.{List, [], _∷_}
 use Prim.Native.Nat.{ℕ, _+_, _-_, _≤_, _<_}
 use native.Mathlib.Numerals.{add-one}
 use native.Mathlib.Omega.{arith}
-use lib.Dec.{eqb}
 use lib.ListN.{length, getD, drop, drop-of-length-le}
-use borrow.Author.Tests.{eq-eqb, ne-eqb, eqb-true}
+use borrow.Author.Tests.{eq-eqb, ne-eqb}
 use Rattle.lines.specs.declared.verdict.Verdict.the-variants.{Fine, Fault}
 use Rattle.lines.specs.Nodes.{Line}
 use Rattle.lines.specs.Texts.{sameText}
 use Rattle.lines.specs.Views.{sameHead, sameLine, differenceFrom}
 use Rattle.lines.specs.Theorems.Lists.{drop-one}
+use Rattle.lines.specs.Theorems.SameTexts.{unlike-texts}
 
 -- two texts are not the same if what is read off them differs: their lengths, or their bytes at one place
 reading-differs : (read : List ℕ → ℕ) (a b : List ℕ) {m n : ℕ} → m ≡ read a → n ≡ read b → (m ≡ n → ⊥) → sameText a b ≡ false
-unfolding sameText
-reading-differs read [] [] p q h = absurd (h (p ∙ sym q))
-reading-differs read [] (y ∷ b) p q h = refl
-reading-differs read (x ∷ a) [] p q h = refl
-reading-differs read (x ∷ a) (y ∷ b) p q h =
-    go (eqb x y) refl (λ e. reading-differs (λ (s : List ℕ). read (x ∷ s)) a b p (q ∙ ap (λ (z : ℕ). read (z ∷ b)) (sym e)) h)
-  where
-    go : (t : Bool) → eqb x y ≡ t → (x ≡ y → sameText a b ≡ false) → (t && sameText a b) ≡ false
-    go true e rest = rest (eqb-true x y e)
-    go false e rest = refl
+reading-differs read a b p q h = unlike-texts a b (λ e. h (p ∙ (ap read e ∙ sym q)))
 
 pub length-differs : (a b : List ℕ) {m n : ℕ} → m ≡ length a → n ≡ length b → (m ≡ n → ⊥) → sameText a b ≡ false
 length-differs = reading-differs length

@@ -1,6 +1,8 @@
 -- What is proved of lines. No definition outside this folder rests on it.
 pub mod Bools
 pub mod Lists
+pub mod SameTexts
+pub mod TrimmedTexts
 pub mod Pairs
 pub mod Cutting
 pub mod TableRule

@@ -1,7 +1,13 @@
 -- Section 3.2, Fig. 4: the language, without xfunapp.
+-- One addition: beside `xeq` stands a comparison by a judge of two strings, of which `xeq` is the one whose judge is equality.
 use Prim.Native.Nat.{ℕ}
+use mathlib.Core.Bool.{Bool}
 use mathlib.Core.List.{List}
-use Rattle.paper.specs.Data.{Sequence}
+use Rattle.paper.specs.Data.{Sequence, May}
+
+-- what it says of two strings: yes, no, or `fail`
+abbrev pub Judge : Type 0
+Judge = List ℕ → List ℕ → May Bool
 
 mutual
   -- X
@@ -20,5 +26,6 @@ mutual
   -- P
   pub data Predicate : Type 0 where
     xeq : Construct → Predicate
+    xjudged : Judge → Construct → Predicate  -- not the paper's
     xwithtag : List ℕ → Predicate
     xiselement : Predicate

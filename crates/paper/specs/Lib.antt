@@ -1,4 +1,4 @@
--- Section 3 of the paper (source 001) as it stands there, without functions and `ins`: in its order and with its names.
+-- Section 3 of the paper (source 001) as it stands there, without functions and `ins`: in its order and with its names. A comparison by a judge is not the paper's.
 pub mod Data
 pub mod Language
 pub mod Contexts

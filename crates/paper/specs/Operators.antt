@@ -5,7 +5,7 @@ use mathlib.Core.List.{List, [], _∷_}
 use Rattle.lines.specs.Texts.{sameText}
 use Rattle.paper.specs.Data.{Updating, ori, non, mod′, del, ElementUpdating, oriE, delE, From, src, code, Sequence}
 use Rattle.paper.specs.Data.{none, str, elt, _⧺_, May, fail, got, _>>=_, _>>_, provided, isNone, sameFrom}
-use Rattle.paper.specs.Contexts.{PairContext}
+use Rattle.paper.specs.Contexts.{Context, PairContext}
 
 -- ## Fig. 5
 
@@ -91,7 +91,10 @@ inTwo (A ∷ []) = fail
 inTwo (A ∷ B ∷ []) = got (A, B)
 inTwo (A ∷ B ∷ D ∷ l) = fail
 
--- backward semantics, as `iter` and the constructs take it
+-- forward and backward semantics, as `iter` and the constructs take them
+abbrev pub Forward : Type 0
+Forward = Context → Sequence → May Sequence
+
 abbrev pub Backward : Type 0
 Backward = PairContext → Sequence → Sequence → May (Sequence × PairContext)
 

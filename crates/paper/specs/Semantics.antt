@@ -6,9 +6,9 @@ use lib.Dec.{eqb}
 use Rattle.lines.specs.Texts.{sameText}
 use Rattle.paper.specs.Data.{ori, non, mod′, del, oriE, delE, src, code, Sequence, none, str, elt, _⧺_, len, May, fail}
 use Rattle.paper.specs.Data.{got, _>>=_, _>>_, provided, isNone, theString, theElement, theItem, sameFrom, sameSequence}
-use Rattle.paper.specs.Language.{Construct, xid, xconst, xvar, xchild, xsetcnt, xseq, xpar, xmap, xif, xlet, Predicate, xeq, xwithtag, xiselement}
+use Rattle.paper.specs.Language.{Judge, Construct, xid, xconst, xvar, xchild, xsetcnt, xseq, xpar, xmap, xif, xlet, Predicate, xeq, xjudged, xwithtag, xiselement}
 use Rattle.paper.specs.Contexts.{Context, PairContext, firsts, find}
-use Rattle.paper.specs.Operators.{mg, split, inTwo, iter, Guard}
+use Rattle.paper.specs.Operators.{mg, split, inTwo, Forward, Backward, iter, Guard}
 
 -- ## What the clauses speak of
 
@@ -63,6 +63,26 @@ abbrev pub taken : Sequence × PairContext → May (Sequence × PairContext)
 taken (S, []) = fail
 taken (S, b ∷ E) = provided (isNone S) >> got (b .1 .1, E)
 
+-- ## A comparison by a judge, over the semantics of its X. Not the paper's: as `xeq`, but for the answer
+
+abbrev pub judgedForward : Judge → Forward → Context → Sequence → May Bool
+judgedForward judge X C S = do
+  t ← theString S
+  T ← X C none
+  t′ ← theString T
+  judge t t′
+
+abbrev pub judgedBackward : Guard → Forward → Backward → Backward
+judgedBackward g X X′ E S S′ = do
+  t ← theString S
+  T ← X (firsts E) none
+  t′ ← theString T
+  T′ ← g T t′
+  (N, E′) ← X′ E none T′
+  provided (isNone N)
+  S″ ← g S′ t
+  got (S″, E′)
+
 -- ## Forward
 
 unfoldable mutual
@@ -111,6 +131,8 @@ unfoldable mutual
     T ← forward X C none
     t′ ← theString T
     got (sameText t t′)
+  -- Comparison by a judge
+  asks (xjudged judge X) C S = judgedForward judge (λ D U. forward X D U) C S
   -- Element selection
   asks (xwithtag t) C S = do
     e ← theElement S
@@ -187,6 +209,8 @@ module _ (g : Guard) where
       provided (isNone N)
       S″ ← g S′ t
       got (S″, E′)
+    -- Comparison by a judge
+    holds (xjudged judge X) E S S′ = judgedBackward g (λ D U. forward X D U) (λ F U W. backward X F U W) E S S′
     -- Element selection
     holds (xwithtag t) E S S′ = do
       e ← theElement S

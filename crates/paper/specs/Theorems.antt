@@ -1,6 +1,7 @@
 -- The paper's page and the rules: that they agree, and where document 01 differs.
--- The constructs over their parts; trees between the two pages; and showing
+-- The constructs over their parts, and comparisons by a judge; trees between the two pages; and showing
 pub mod Constructs
+pub mod Judges
 pub mod Trees
 pub mod Showing
 -- Putting back, over any guard that locks or clashes; then the two guards
@@ -26,6 +27,8 @@ pub mod Alike
 pub mod Suspects
 pub mod Adequacy
 pub mod OnBytes
+-- Where nothing is padded, 11 as printed
+pub mod AsPrinted
 -- Computed: the paper's own examples, and each difference
 pub mod Examples
 pub mod Differences

@@ -1,14 +1,16 @@
-//! The bench examples and the edges of sweeping and of saved lines; and seeded cases: each aims at
-//! a reply, some at two, and most at none.
+//! The bench examples and the edges of sweeping, of saved lines and of padded texts; and seeded
+//! cases: each aims at a reply, some at two, and most at none.
 
 pub mod bench;
 mod build;
 mod chance;
 mod damage;
-mod edge;
+pub(crate) mod edge;
 mod edits;
 mod faults;
 mod masters;
+pub mod padded_edges;
+pub mod pads;
 mod programs;
 pub mod saved_edges;
 pub mod saves;
@@ -20,7 +22,7 @@ mod words;
 use crate::entry;
 use crate::node_line::{self, FROM_PROGRAM, NodeLine};
 use crate::program;
-use crate::rules::Rules;
+use crate::rules::{Agreement, Rules};
 use crate::showing::{Cause, Showing, Stop};
 use crate::stream::{Call, Case};
 use crate::tree;
@@ -76,7 +78,8 @@ pub fn cases(seed: u64, count: usize) -> Vec<Case> {
     (0..count).map(|index| case(seed, index)).collect()
 }
 
-/// A show or a put back; sweeps, and views with many saved lines, have streams of their own.
+/// A show or a put back; sweeps, views with many saved lines, and padded texts have streams of
+/// their own.
 pub fn case(seed: u64, index: usize) -> Case {
     let mut chance = Chance::of_case(seed, index);
     let call = match chance.percent(PUT_BACK_SHARE) {
@@ -85,8 +88,8 @@ pub fn case(seed: u64, index: usize) -> Case {
     };
     let aims = aims(&mut chance, call);
     let (master, program) = ground(&mut chance, &aims);
-    let run = run(&master, &program);
-    let view = match (call, run) {
+    let outcome = run(&master, &program, &rules_before_padding());
+    let view = match (call, outcome) {
         (Call::PutBack, Ok((fresh, compared))) => view(&mut chance, &aims, &fresh, &compared),
         (Call::PutBack, Err(_)) => master.clone(),
         _ => Vec::new(),
@@ -130,13 +133,20 @@ fn ground(chance: &mut Chance, aims: &[Aim]) -> templates::Ground {
     (master, program)
 }
 
+/// The rules by which the cases older than request #104 are made: test 11 compares byte for byte,
+/// so that a seed makes the cases that it made then.
+fn rules_before_padding() -> Rules {
+    let mut rules = Rules::document();
+    rules.showing.equals_by = Agreement::ByteForByte;
+    rules
+}
+
 type Run = Result<(Vec<NodeLine>, BTreeSet<u16>), Stop>;
 
 /// The fresh view and the numbers compared while it was made.
-fn run(master: &[NodeLine], program: &Program) -> Run {
-    let rules = Rules::document();
+fn run(master: &[NodeLine], program: &Program, rules: &Rules) -> Run {
     let root = program::read(program, &rules.bounds).expect("grounds have sound programs");
-    let mut showing = Showing::new(&rules);
+    let mut showing = Showing::new(rules);
     let shown = showing.show(&root, &tree::from_lines(master))?;
     Ok((tree::to_lines(&shown), showing.compared))
 }
@@ -144,7 +154,7 @@ fn run(master: &[NodeLine], program: &Program) -> Run {
 /// The program, with lines of its own in the view where it would have none.
 fn with_program_lines(chance: &mut Chance, master: &[NodeLine], program: Program) -> Program {
     let has_some = |fresh: &[NodeLine]| fresh.iter().any(|line| line.number == FROM_PROGRAM);
-    match run(master, &program) {
+    match run(master, &program, &rules_before_padding()) {
         Ok((fresh, _)) if has_some(&fresh) => program,
         Ok((fresh, _)) if fresh.len() < 128 && may_grow(&program) => {
             let own = build::text(&words::text(chance));
@@ -168,7 +178,8 @@ fn stopping(chance: &mut Chance, master: &[NodeLine], program: &Program) -> Prog
         let tried = faults::stop_for_source(chance, program);
         let sound = tried.len() <= LONGEST_PROGRAM
             && program::read(&tried, &Rules::document().bounds).is_ok();
-        if sound && matches!(run(master, &tried), Err(stop) if stop.cause == Cause::Source) {
+        let outcome = || run(master, &tried, &rules_before_padding());
+        if sound && matches!(outcome(), Err(stop) if stop.cause == Cause::Source) {
             return tried;
         }
     }

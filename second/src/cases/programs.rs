@@ -33,7 +33,7 @@ pub struct Maker<'a> {
 pub fn program(chance: &mut Chance, master: &[NodeLine]) -> Program {
     let levels = chance.between(2, 12);
     let left = Left { levels, entries: 90, eaches: 3, binds: 4, items: MOST_ITEMS };
-    let mut maker = Maker { chance, rules: Rules::document(), slots: Vec::new() };
+    let mut maker = Maker { chance, rules: super::rules_before_padding(), slots: Vec::new() };
     maker.transformation(&tree::from_lines(master), left)
 }
 

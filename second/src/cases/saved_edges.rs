@@ -5,7 +5,7 @@ use super::bench::{
     EQUAL_TO_HI, HI, LO, LO_DELETED, LO_SAVED, LO_TO_HI, LO_TO_XX, M, M_EDITED, P, PP, done,
     put_back, refused, texts,
 };
-use super::edge::{Edge, all_with_mark, edge, longest_lines, with_mark};
+use super::edge::{Edge, all_with_mark, both_compared, edge, longest_lines, text_line, with_mark};
 use crate::calls::Reply;
 use std::collections::BTreeSet;
 
@@ -205,12 +205,7 @@ fn compared_texts() -> Vec<Edge> {
 
 /// Node 3 is the source of test 11 and node 1 the result of its X; both are shown.
 fn both_texts_of_a_test() -> Vec<Edge> {
-    let text_in = |tag| ["08", "0500", "0A", "0B", tag, "06", "02"];
-    let both = ["09", "01", "0501"];
-    let compared = [&["0B", "11", "0501"], &both[..], &both[..]].concat();
-    let of_a = [&["0C00", "08"], &text_in("120161")[..]].concat();
-    let of_b = [&["0C01", "08"], &text_in("120162")[..]].concat();
-    let program = [of_a, of_b, compared].concat();
+    let program = both_compared();
     let alike = ["00020000000161", "01010000010178", "00020000020162", "01010000030178"];
     let different = [alike[0], alike[1], alike[2], "01010000030179"];
     let put_back = |master: &[&str; 4], view: &[&str; 2]| put_back(master, &program, view);
@@ -291,8 +286,7 @@ fn old_texts() -> Vec<Edge> {
 
 /// Node 0 with that mark and text.
 fn line(mark: &str, text: &[u8]) -> String {
-    let digits: String = text.iter().map(|byte| format!("{byte:02X}")).collect();
-    format!("0001{mark}0000{:02X}{digits}", text.len())
+    text_line(mark, 0, text)
 }
 
 /// The text of another line is a new one.

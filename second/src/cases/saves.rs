@@ -17,6 +17,8 @@ const WEIGHTS: [usize; 3] = [80, 8, 12];
 const TEMPLATE_SHARE: usize = 40;
 const COPIED_SHARE: usize = 70;
 
+const EDITING: Editing = Editing { new_text: near, compared_if_no_other: false };
+
 pub fn cases(seed: u64, count: usize) -> Vec<Case> {
     (0..count).map(|index| case(seed, index)).collect()
 }
@@ -26,7 +28,7 @@ pub fn case(seed: u64, index: usize) -> Case {
     let aim = AIMS[chance.weighted(&WEIGHTS)];
     let ((master, program), fresh, compared) = shown(&mut chance, aim);
     let mut view = visited(&mut chance, &fresh, aim);
-    edit_some(&mut chance, &fresh, &compared, &mut view);
+    edit_some(&mut chance, &fresh, &compared, &mut view, &EDITING);
     if aim == Aim::ViewComparison {
         misplace(&mut chance, &mut view);
     }
@@ -41,8 +43,8 @@ pub fn case(seed: u64, index: usize) -> Case {
 fn shown(chance: &mut Chance, aim: Aim) -> (templates::Ground, Vec<NodeLine>, BTreeSet<u16>) {
     loop {
         let (master, program) = ground(chance, aim);
-        if let Ok((fresh, compared)) = super::run(&master, &program)
-            && fresh.iter().any(|line| is_text(line) && line.number != FROM_PROGRAM)
+        if let Ok((fresh, compared)) = super::run(&master, &program, &super::rules_before_padding())
+            && fresh.iter().any(is_text_of_the_master)
         {
             return ((master, program), fresh, compared);
         }
@@ -54,8 +56,8 @@ fn ground(chance: &mut Chance, aim: Aim) -> templates::Ground {
         true => templates::running(chance),
         false => super::ground(chance, &[]),
     };
-    if chance.percent(COPIED_SHARE) && may_double(&program) {
-        program = build::beside(program.clone(), program);
+    if chance.percent(COPIED_SHARE) {
+        program = doubled(program);
     }
     if aim == Aim::ProgramMarks {
         program = super::with_program_lines(chance, &master, program);
@@ -63,16 +65,24 @@ fn ground(chance: &mut Chance, aim: Aim) -> templates::Ground {
     (master, program)
 }
 
-fn may_double(program: &Program) -> bool {
-    2 * program.len() < LONGEST_PROGRAM && build::levels(program, 0) < 12
+/// The program beside itself, if that keeps its bounds.
+pub(super) fn doubled(program: Program) -> Program {
+    match 2 * program.len() < LONGEST_PROGRAM && build::levels(&program, 0) < 12 {
+        true => build::beside(program.clone(), program),
+        false => program,
+    }
 }
 
 fn is_text(line: &NodeLine) -> bool {
     line.kind == Kind::Text
 }
 
+pub(super) fn is_text_of_the_master(line: &NodeLine) -> bool {
+    is_text(line) && line.number != FROM_PROGRAM
+}
+
 /// The fresh view as an editor leaves it that marks each line it has visited.
-fn visited(chance: &mut Chance, fresh: &[NodeLine], aim: Aim) -> Vec<NodeLine> {
+pub(super) fn visited(chance: &mut Chance, fresh: &[NodeLine], aim: Aim) -> Vec<NodeLine> {
     let mut view = fresh.to_vec();
     let share = *chance.pick(&[100, 90, 60, 30]);
     for line in view.iter_mut().filter(|line| is_text(line)) {
@@ -84,41 +94,63 @@ fn visited(chance: &mut Chance, fresh: &[NodeLine], aim: Aim) -> Vec<NodeLine> {
     view
 }
 
+/// A new text, made from the old one.
+type NewText = fn(&mut Chance, &[u8]) -> Vec<u8>;
+
+/// How a few nodes are edited.
+pub(super) struct Editing {
+    pub new_text: NewText,
+    /// Whether, where only compared nodes could be edited, these are.
+    pub compared_if_no_other: bool,
+}
+
 /// Edits a few nodes: texts rather than elements, and often none that was compared.
-fn edit_some(
+pub(super) fn edit_some(
     chance: &mut Chance,
     fresh: &[NodeLine],
     compared: &BTreeSet<u16>,
     view: &mut [NodeLine],
+    editing: &Editing,
 ) {
     let with_elements = chance.percent(25);
-    let with_compared = chance.percent(50);
-    let may_be_edited = |line: &&NodeLine| {
-        line.number != FROM_PROGRAM
-            && (with_elements || is_text(line))
-            && (with_compared || !compared.contains(&line.number))
+    let open = |with_compared: bool| -> Vec<u16> {
+        let may_be_edited = |line: &&NodeLine| {
+            line.number != FROM_PROGRAM
+                && (with_elements || is_text(line))
+                && (with_compared || !compared.contains(&line.number))
+        };
+        fresh.iter().filter(may_be_edited).map(|line| line.number).collect()
     };
-    let open: Vec<u16> = fresh.iter().filter(may_be_edited).map(|line| line.number).collect();
+    let mut numbers = open(chance.percent(50));
+    if numbers.is_empty() && editing.compared_if_no_other {
+        numbers = open(true);
+    }
     for _ in 0..chance.weighted(&[15, 45, 25, 15]) {
-        if !open.is_empty() {
-            let number = *chance.pick(&open);
-            edit_node(chance, number, fresh, view);
+        if !numbers.is_empty() {
+            let number = *chance.pick(&numbers);
+            edit_node(chance, number, fresh, view, editing.new_text);
         }
     }
 }
 
 /// Edits one line of a node, some alike, or each in its own way.
-fn edit_node(chance: &mut Chance, number: u16, fresh: &[NodeLine], view: &mut [NodeLine]) {
+fn edit_node(
+    chance: &mut Chance,
+    number: u16,
+    fresh: &[NodeLine],
+    view: &mut [NodeLine],
+    new_text: NewText,
+) {
     let places: Vec<usize> =
         (0..fresh.len()).filter(|&place| fresh[place].number == number).collect();
     let one = *chance.pick(&places);
-    let alike = edit(chance, &fresh[one]);
+    let alike = edit(chance, &fresh[one], new_text);
     let way = chance.weighted(&[50, 30, 20]);
     for place in places {
         let edit = match way {
             0 if place == one => alike.clone(),
             1 if chance.percent(50) => alike.clone(),
-            2 => edit(chance, &fresh[place]),
+            2 => edit(chance, &fresh[place], new_text),
             _ => continue,
         };
         (view[place].mark, view[place].bytes) = edit;
@@ -126,9 +158,9 @@ fn edit_node(chance: &mut Chance, number: u16, fresh: &[NodeLine], view: &mut [N
 }
 
 /// The mark and the bytes that a line is given.
-fn edit(chance: &mut Chance, fresh: &NodeLine) -> (Mark, Vec<u8>) {
+fn edit(chance: &mut Chance, fresh: &NodeLine, new_text: NewText) -> (Mark, Vec<u8>) {
     match is_text(fresh) && chance.percent(70) {
-        true => (Mark::Changed, near(chance, &fresh.bytes)),
+        true => (Mark::Changed, new_text(chance, &fresh.bytes)),
         false => (Mark::Deleted, fresh.bytes.clone()),
     }
 }

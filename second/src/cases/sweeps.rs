@@ -1,5 +1,5 @@
-//! Seeded sweeps of the masters that put backs return: mostly with deletions of all sorts, some with
-//! a fault or two.
+//! Seeded sweeps of the masters that put backs return: mostly with deletions of all sorts, some
+//! with a fault or two.
 
 use super::build::{self, Program};
 use super::chance::Chance;
@@ -8,7 +8,7 @@ use super::{SecondRooms, edits, faults, masters, words};
 use crate::calls;
 use crate::entry;
 use crate::node_line::{self, FROM_PROGRAM, Kind, Mark, NodeLine};
-use crate::rules::{Rules, SavedMarks};
+use crate::rules::SavedMarks;
 use crate::stream::{Call, Case};
 
 /// The fault that a case is given.
@@ -63,7 +63,7 @@ fn aims(chance: &mut Chance) -> Vec<Aim> {
 /// What the first accepted put back returns; over the whole master every one is. An old text marked
 /// changed keeps its mark, as before request #101: such masters are there to be swept.
 fn returned_master(chance: &mut Chance) -> Vec<NodeLine> {
-    let mut rules = Rules::document();
+    let mut rules = super::rules_before_padding();
     rules.saving.marks = SavedMarks::None;
     loop {
         let reply = calls::answer(&put_back(chance), &rules);
@@ -79,7 +79,7 @@ fn put_back(chance: &mut Chance) -> Case {
         true => (master(chance), build::source()),
         false => super::ground(chance, &[]),
     };
-    let view = match super::run(&master, &program) {
+    let view = match super::run(&master, &program, &super::rules_before_padding()) {
         Ok((fresh, compared)) if chance.percent(EDITED_SHARE) => {
             edits::edited(chance, &fresh, &compared)
         }

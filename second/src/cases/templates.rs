@@ -26,6 +26,17 @@ pub fn running(chance: &mut Chance) -> Ground {
     }
 }
 
+/// A ground on which texts are often compared.
+pub fn comparing(chance: &mut Chance) -> Ground {
+    match chance.below(5) {
+        0 => pairs_compared(chance),
+        1 => slots_compared(chance),
+        2 => key_compared(chance),
+        3 => compared_and_thrown_away(chance),
+        _ => three_eaches(chance),
+    }
+}
+
 /// Every text beside every text, through slots that may shadow one another.
 fn pairs_compared(chance: &mut Chance) -> Ground {
     let count = chance.between(1, 4);

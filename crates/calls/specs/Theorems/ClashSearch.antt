@@ -11,9 +11,9 @@ use Rattle.lines.specs.Nodes.{Line, changedMark, lineAt, noLine}
 use Rattle.lines.specs.Texts.{sameText}
 use Rattle.lines.specs.Views.{markCounted}
 use Rattle.lines.specs.Theorems.Bools.{and-left, and-right, and-both, or-other}
+use Rattle.lines.specs.Theorems.SameTexts.{sameText-sound, sameText-refl}
 use Rattle.values.specs.Values.{among}
 use Rattle.values.specs.Standings.{isEdit}
-use Rattle.values.specs.Theorems.MergeLaws.{sameText-sound, sameText-refl}
 use Rattle.values.specs.Theorems.Copies.{bool-cases}
 use Rattle.calls.specs.Demands.{EditedLine, SameEdit, Acceptable, Clashes, differ, compare}
 use Rattle.calls.specs.Theorems.EditedLines.{edited-edit, edit-edited}

@@ -8,26 +8,15 @@ use native.Mathlib.Omega.{arith}
 use lib.Dec.{eqb}
 use borrow.Author.Tests.{eqb-true}
 use Rattle.lines.specs.Nodes.{Line, untouchedMark, changedMark, deletedMark}
-use Rattle.lines.specs.Texts.{sameText}
 use Rattle.lines.specs.Views.{markCounted}
 use Rattle.lines.specs.Theorems.Bools.{never}
 use Rattle.lines.specs.Theorems.CountedMarks.{counted-written}
+use Rattle.lines.specs.Theorems.SameTexts.{unlike-texts, told-unlike}
 use Rattle.values.specs.Standings.{changed, deleted, sort, says, brings, isEdit, handsBack}
 use Rattle.values.specs.Theorems.Edits.{by-mark}
-use Rattle.values.specs.Theorems.MergeLaws.{sameText-sound, sameText-refl}
 use Rattle.calls.specs.Demands.{IsEdited, SameEdit, withEdit}
 
 -- ## Its mark counts as written
-
-unlike-texts : (s t : List ℕ) → (s ≡ t → ⊥) → sameText s t ≡ false
-unlike-texts s t n = go (sameText s t) refl
-  where
-    go : (b : Bool) → sameText s t ≡ b → b ≡ false
-    go true e = absurd (n (sameText-sound s t e))
-    go false e = refl
-
-told-unlike : (s t : List ℕ) → sameText s t ≡ false → s ≡ t → ⊥
-told-unlike s t e p = never (sym e ∙ (ap (sameText s) (sym p) ∙ sameText-refl s))
 
 module _ (f v : Line) where
   edit-counts : IsEdited f v → markCounted (f .text) (v .mark) (v .text) ≡ v .mark

@@ -15,8 +15,8 @@ use Rattle.lines.specs.Views.{sameHead, sameLine, differenceFrom, firstDifferen
 use Rattle.lines.specs.Writing.{fileOf, putAt}
 use Rattle.lines.specs.Theorems.Bools.{or-right}
 use Rattle.lines.specs.Theorems.MasterRules.{unmarked-at}
+use Rattle.lines.specs.Theorems.SameTexts.{sameText-refl}
 use Rattle.values.specs.Values.{Value}
-use Rattle.values.specs.Theorems.MergeLaws.{sameText-refl}
 use Rattle.runs.specs.Results.{gives}
 use Rattle.runs.specs.Grounds.{numberedFrom, shownLine, oneMaster, view}
 use Rattle.runs.specs.Theorems.FreshView.{Unmarked, fresh-mark, one-unmarked, one-fresh}

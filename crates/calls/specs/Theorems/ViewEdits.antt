@@ -13,7 +13,7 @@ use Rattle.lines.specs.Texts.{sameText}
 use Rattle.lines.specs.Verdicts.{firstFrom}
 use Rattle.lines.specs.Views.{sameHead, sameLine, differenceFrom, firstDifference, programMarked, programMark}
 use Rattle.lines.specs.Theorems.Bools.{and-parts, or-other}
-use Rattle.values.specs.Theorems.MergeLaws.{sameText-sound, sameText-refl}
+use Rattle.lines.specs.Theorems.SameTexts.{sameText-sound, sameText-refl}
 use Rattle.calls.specs.Demands.{FromProgram, OnlyEdits}
 
 -- ## No fault from a line on: none at any place, what stands for a missing one counted

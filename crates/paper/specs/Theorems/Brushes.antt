@@ -6,9 +6,10 @@ use Prim.Native.Nat.{ℕ, zero, suc, _+_}
 use borrow.Author.Tests.{eq-eqb}
 use lib.ListN.{length, drop, length-append}
 use Rattle.lines.specs.Texts.{sameText}
+use Rattle.lines.specs.Theorems.SameTexts.{sameText-refl}
 use Rattle.values.specs.Values.{Origin, master, program, Lookup, bytesOf, isFrom}
 use Rattle.values.specs.Standings.{Standing, untouched, locked, changed, deleted, clash, sort, newText, isUntouched, isClash, sameStanding, _⋓_, firstOf, restOf, merged, gathered}
-use Rattle.values.specs.Theorems.MergeLaws.{sameText-refl, clash-is, clash-left, unit-left, merge-comm, merge-swap}
+use Rattle.values.specs.Theorems.MergeLaws.{clash-is, clash-left, unit-left, merge-comm, merge-swap}
 use Rattle.values.specs.Theorems.Gathering.{only, merged-first, merged-rest, drop-rest, gathered-cut, gathered-take}
 use Rattle.runs.specs.PuttingBack.{SlotStandings, firstSlot, restSlots}
 use Rattle.paper.specs.Data.{Updating, ori, non, mod′, del, ElementUpdating, oriE, delE, src, Sequence, none, str, elt, fail, got, sameFrom}

@@ -1,16 +1,13 @@
 -- The semantics of each construct and predicate over those of its parts: what the proofs speak of where `forward` and `backward` are taken apart.
+-- Those of a comparison are `judgedForward` and `judgedBackward` of `Semantics`.
 use Prim.Native.Nat.{ℕ}
 use mathlib.Core.Bool.{Bool, _&&_}
 use mathlib.Core.List.{List, [], _∷_}
 use Rattle.lines.specs.Texts.{sameText}
-use Rattle.paper.specs.Data.{Sequence, none, elt, _⧺_, len, May, got, _>>=_, _>>_, provided, isNone, theString, theElement, theItem, sameFrom}
+use Rattle.paper.specs.Data.{Sequence, none, elt, _⧺_, len, May, got, _>>=_, _>>_, provided, theElement, theItem, sameFrom}
 use Rattle.paper.specs.Contexts.{Context, firsts, find}
-use Rattle.paper.specs.Operators.{mg, split, inTwo, Backward, iter, Guard}
+use Rattle.paper.specs.Operators.{mg, split, inTwo, Forward, Backward, iter}
 use Rattle.paper.specs.Semantics.{updated, onEach, lengths, branch, taken}
-
--- [[X]]_C(S) = T. [[X]]_E(S, T') = (S', E') is `Backward`
-abbrev pub Forward : Type 0
-Forward = Context → Sequence → May Sequence
 
 -- a predicate's
 abbrev pub Asking : Type 0
@@ -127,26 +124,6 @@ abbrev pub xlet-backward : ℕ → Backward → Backward
 xlet-backward k X E S T = do
   r ← X ((k, (S, S)) ∷ E) none T
   taken r
-
--- ## Comparison
-
-abbrev pub xeq-forward : Forward → Asking
-xeq-forward X C S = do
-  x ← theString S
-  T ← X C none
-  y ← theString T
-  got (sameText x y)
-
-abbrev pub xeq-backward : Guard → Forward → Backward → Backward
-xeq-backward guard X X′ E S S′ = do
-  x ← theString S
-  T ← X (firsts E) none
-  y ← theString T
-  G ← guard T y
-  r ← X′ E none G
-  provided (isNone (r .0))
-  Q ← guard S′ x
-  got (Q, r .1)
 
 -- ## Element selection
 

@@ -7,7 +7,7 @@ use Rattle.lines.specs.declared.verdict.Verdict.the-variants.{Fine, Fault}
 use Rattle.lines.specs.Entries.{slotOf, textOf}
 use Rattle.lines.specs.Nodes.{Line, isElement, isMarked}
 use Rattle.lines.specs.Masters.{depthAfter, placed, boundsFrom, masterBounds, unmarked}
-use Rattle.lines.specs.Texts.{sameText, agree}
+use Rattle.lines.specs.Texts.{sameText, keptBefore, trimmed, agree}
 use Rattle.lines.specs.Verdicts.{firstFrom}
 use Rattle.lines.specs.Views.{sameHead, sameLine, differenceFrom, firstDifference, programMarked, programMark, markCounted, countedLines}
 use Rattle.values.specs.Values.{among, elementOf, bytesOf, isFrom, masterNumber, isTop, noTop, startsTop, lowered, raised, toFirst, items, shallow, withinBounds}
@@ -24,7 +24,7 @@ use Rattle.paper.specs.Language.{xvar}
 use Rattle.paper.specs.Operators.{guard}
 use Rattle.paper.specs.Strict.{strictGuard}
 use Rattle.paper.specs.Semantics.{forward, backward}
-use Rattle.paper.specs.Programs.{inPaper}
+use Rattle.paper.specs.Programs.{worded, inPaper, inPrint}
 use Rattle.paper.specs.Lines.{itemsAt, sequence}
 use Rattle.paper.specs.Agreement.{clashOf, handedBackBy, putBackBy}
 
@@ -127,10 +127,10 @@ outcome c =
     )
 
 all-put : map outcome cases ≡ map (λ c. (c .written, c .printed, c .strict, c .clash, c .returned)) cases
-unfolding outcome backward forward inPaper sequence itemsAt firstClash standingFor standing brought brings says markCounted countedLines handedBack linesIn numberedFrom
+unfolding outcome backward forward worded sequence itemsAt firstClash standingFor standing brought brings says markCounted countedLines handedBack linesIn numberedFrom
     lineOf whole showing shownLine view show putBack valueIn oneTop oneElement oneText bounded inTurn verdict mergedInto untouchedSlots gatheredSlots valueOf
     saysYes inside overItems elementOf bytesOf isFrom masterNumber isTop noTop startsTop lowered raised toFirst items shallow withinBounds sort
-    newText isUntouched isClash sameStanding _⋓_ fitted allOver merged gathered handsBack isElement sameText agree
+    newText isUntouched isClash sameStanding _⋓_ fitted allOver merged gathered handsBack isElement sameText keptBefore trimmed agree
 all-put = refl
 
 -- ## Views that replies 9 and 10 keep from being put back, where the paper fails: xconst, xsetcnt and split
@@ -172,9 +172,9 @@ judged c = (
 )
 
 all-kept : map judged keptBack ≡ map (λ c. (fail, c .nine, c .ten)) keptBack
-unfolding judged backward forward inPaper sequence itemsAt numberedFrom lineOf whole showing shownLine view show valueIn oneTop oneElement
+unfolding judged backward forward worded sequence itemsAt numberedFrom lineOf whole showing shownLine view show valueIn oneTop oneElement
     oneText bounded inTurn verdict valueOf elementOf bytesOf masterNumber isTop noTop startsTop lowered raised toFirst items shallow withinBounds
-    isElement sameText agree isMarked firstFrom sameHead sameLine differenceFrom firstDifference programMarked programMark
+    isElement sameText keptBefore trimmed agree isMarked firstFrom sameHead sameLine differenceFrom firstDifference programMarked programMark
 all-kept = refl
 
 -- ## Views that reply 9 refuses, where the paper hands something back
@@ -225,9 +225,9 @@ letThrough c = (
 )
 
 any-view : map letThrough letPass ≡ map (λ c. (c .printed, c .printed, c .nine)) letPass
-unfolding letThrough backward forward inPaper sequence itemsAt numberedFrom lineOf whole showing shownLine view show valueIn oneTop oneElement
+unfolding letThrough backward forward worded sequence itemsAt numberedFrom lineOf whole showing shownLine view show valueIn oneTop oneElement
     oneText bounded inTurn verdict valueOf elementOf bytesOf masterNumber isTop noTop startsTop lowered raised toFirst items shallow withinBounds
-    isElement sameText agree isMarked firstFrom sameHead sameLine differenceFrom firstDifference
+    isElement sameText keptBefore trimmed agree isMarked firstFrom sameHead sameLine differenceFrom firstDifference
 any-view = refl
 
 -- ## Masters that carry a mark: the paper puts back into them, reply 5 refuses them
@@ -267,8 +267,20 @@ putInto c = (
 )
 
 marked-master : map putInto markedMasters ≡ map (λ c. (c .printed, c .printed, c .five)) markedMasters
-unfolding putInto backward forward inPaper sequence itemsAt isElement sameText agree unmarked firstFrom isMarked
+unfolding putInto backward forward worded sequence itemsAt isElement sameText keptBefore trimmed agree unmarked firstFrom isMarked
 marked-master = refl
+
+-- ## A padded text: `xeq` tells it from the text without its spaces, test 11 does not
+
+abbrev padded : List Line
+padded = textLine 0 0 (0x68 ∷ 0x69 ∷ 0x20 ∷ []) ∷ []
+
+padded-text : (forward (inPrint asks) [] (sequence padded) ≡ got none)
+    × (forward (inPaper asks) [] (sequence padded) ≡ got (sequence padded))
+    × (freshOf asks padded ≡ padded)
+unfolding forward worded sequence itemsAt numberedFrom lineOf whole showing shownLine view show oneText verdict valueOf
+    elementOf bytesOf masterNumber isElement sameText keptBefore trimmed agree
+padded-text = (refl, refl, refl)
 
 -- ## Size: the paper joins any two sequences, document 01 stops over 128 nodes
 
@@ -280,7 +292,7 @@ texts (suc n) number = textLine 0 number hi ∷ texts n (suc number)
 over-128 : (masterBounds (texts 65 0) ≡ Fine)
     × ((forward (inPaper (beside 0 (source 1) (source 2))) [] (sequence (texts 65 0)) >>= λ T. got (len T)) ≡ got 130)
     × (showing (oneMaster (texts 65 0)) (beside 0 (source 1) (source 2)) ≡ stops (Size 0))
-unfolding texts masterBounds boundsFrom placed depthAfter forward inPaper sequence itemsAt showing numberedFrom lineOf whole show inTurn isElement
+unfolding texts masterBounds boundsFrom placed depthAfter forward worded sequence itemsAt showing numberedFrom lineOf whole show inTurn isElement
 over-128 = (refl, refl, refl)
 
 -- ## Unbound variables: the paper fails where it meets one, document 01 refuses the program

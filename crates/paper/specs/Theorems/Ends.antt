@@ -17,9 +17,8 @@ use Rattle.runs.specs.Theorems.Combinators.{Run, Asking, Putting}
 use Rattle.runs.specs.Theorems.Conservation.{lock, among-append}
 use Rattle.paper.specs.Data.{Sequence, none, str, _⧺_, May, fail, got, _>>=_}
 use Rattle.paper.specs.Contexts.{Context, PairContext, firsts}
-use Rattle.paper.specs.Operators.{mg, Backward, Guard}
+use Rattle.paper.specs.Operators.{mg, Forward, Backward, Guard}
 use Rattle.paper.specs.Semantics.{updated}
-use Rattle.paper.specs.Theorems.Constructs.{Forward}
 use Rattle.paper.specs.Theorems.Constructs.{Asking as Predicated}
 use Rattle.paper.specs.Theorems.Trees.{treesIn, Trees, nil, txt, flat, Scope, flatSlots, names, fromOrigin, paint, paintAll, Right, RightAll}
 use Rattle.paper.specs.Theorems.Brushes.{textFor, stateFor, brush, Permit, FineText, Fine, FineAll, told}

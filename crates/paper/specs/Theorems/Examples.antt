@@ -5,7 +5,7 @@ use Prim.Native.Nat.{ℕ}
 use Rattle.lines.specs.declared.verdict.Verdict.the-variants.{Fine, Fault}
 use Rattle.lines.specs.Entries.{Entry, slotOf, textOf}
 use Rattle.lines.specs.Nodes.{Line, isElement}
-use Rattle.lines.specs.Texts.{sameText, agree}
+use Rattle.lines.specs.Texts.{sameText, keptBefore, trimmed, agree}
 use Rattle.lines.specs.Views.{markCounted}
 use Rattle.values.specs.Values.{among, elementOf, bytesOf, isFrom, masterNumber, isTop, noTop, startsTop, lowered, raised, toFirst, items, shallow, withinBounds}
 use Rattle.values.specs.Standings.{sort, newText, isUntouched, isClash, sameStanding, _⋓_, fitted, allOver, merged, gathered, says, brings, handsBack}
@@ -19,7 +19,7 @@ use Rattle.paper.specs.Data.{Updating, ori, non, mod′, oriE, src, code
 use Rattle.paper.specs.Language.{Construct, xid, xconst, xvar, xchild, xsetcnt, xseq, xpar, xmap, xif, xlet, xeq, xwithtag}
 use Rattle.paper.specs.Operators.{mg, split, guard}
 use Rattle.paper.specs.Semantics.{forward, backward}
-use Rattle.paper.specs.Programs.{inPaper}
+use Rattle.paper.specs.Programs.{worded, inPaper, inPrint}
 use Rattle.paper.specs.Lines.{itemsAt, sequence}
 use Rattle.paper.specs.Agreement.{clashOf, handedBackBy}
 
@@ -71,9 +71,9 @@ tens = beside 0 (source 1) (choose 2 (compares 3 equals (text 4 ten)) (source 5)
 abbrev ifTen : Construct
 ifTen = xif (xeq (xconst (str ten ori code none))) xid (xconst none)
 
-inPaper-tens : inPaper tens ≡ xpar xid ifTen
-unfolding inPaper
-inPaper-tens = refl
+inPrint-tens : inPrint tens ≡ xpar xid ifTen
+unfolding worded
+inPrint-tens = refl
 
 abbrev tenIs : Updating → Sequence → Sequence
 tenIs u S = str ten u (src 0) S
@@ -176,7 +176,7 @@ bibTree =
     (slot 20 0)))))
 
 read-bib : (readProgram bibEntries ≡ gives bibTree) × (inPaper bibTree ≡ bibView)
-unfolding readProgram readIn transformationAt below makes operations among slotOf textOf inPaper
+unfolding readProgram readIn transformationAt below makes operations among slotOf textOf worded
 read-bib = (refl, refl)
 
 -- the books' lines of a view, the first title's text with this mark and these bytes
@@ -212,7 +212,7 @@ again-bib = refl
 shown-by-the-rules : (view (oneMaster oneTen) (valueOf (showing (oneMaster oneTen) tens)) ≡ line 0 1 0 0 ten ∷ line 0 1 0 0 ten ∷ [])
     × (view (oneMaster books) (valueOf (showing (oneMaster books) bibTree)) ≡ bibLines 0 database (bookLines 0 database))
 unfolding view shownLine numberedFrom lineOf whole showing show valueIn oneTop oneElement oneText bounded inTurn verdict valueOf
-    elementOf bytesOf masterNumber isTop noTop startsTop lowered raised toFirst items shallow withinBounds isElement sameText agree
+    elementOf bytesOf masterNumber isTop noTop startsTop lowered raised toFirst items shallow withinBounds isElement sameText keptBefore trimmed agree
 shown-by-the-rules = (refl, refl)
 
 -- both edits of 10 are a clash of node 0; the edited title is handed back as the paper has it
@@ -223,5 +223,5 @@ by-the-rules : (clashOf tens oneTen (line 0 1 1 0 eleven ∷ line 0 1 0 0 ten �
 unfolding firstClash standingFor standing brought brings says markCounted handedBack linesIn numberedFrom lineOf whole showing show putBack
     valueIn oneTop oneElement oneText bounded inTurn verdict mergedInto untouchedSlots gatheredSlots valueOf saysYes inside
     overItems elementOf bytesOf isFrom masterNumber isTop noTop startsTop lowered raised toFirst items shallow withinBounds sort
-    newText isUntouched isClash sameStanding _⋓_ fitted allOver merged gathered handsBack isElement sameText agree
+    newText isUntouched isClash sameStanding _⋓_ fitted allOver merged gathered handsBack isElement sameText keptBefore trimmed agree
 by-the-rules = (refl, refl, refl, refl)

@@ -7,16 +7,16 @@ use Prim.Native.Nat.{ℕ}
 use borrow.Author.Tests.{eq-eqb, not-true}
 use Rattle.lines.specs.Texts.{sameText}
 use Rattle.lines.specs.Theorems.Bools.{or-right, or-other}
+use Rattle.lines.specs.Theorems.SameTexts.{sameText-refl}
 use Rattle.values.specs.Values.{Origin, master, program, Lookup, bytesOf, isFrom, masterNumber, among}
 use Rattle.values.specs.Standings.{Standing, untouched, locked, changed, deleted, clash, sort, newText, isUntouched, isClash, sameStanding, _⋓_}
-use Rattle.values.specs.Theorems.MergeLaws.{sameText-refl}
 use Rattle.paper.specs.Data.{ori, non, mod′, del, src, code, Sequence, none, str, elt, _⧺_, len, May}
 use Rattle.paper.specs.Data.{fail, got, _>>=_, _>>_, provided, isNone, theString, theElement, sameFrom}
-use Rattle.paper.specs.Language.{Construct, xid, xconst, xvar, xchild, xsetcnt, xseq, xpar, xmap, xif, xlet, Predicate, xeq, xwithtag, xiselement}
+use Rattle.paper.specs.Language.{Construct, xid, xconst, xvar, xchild, xsetcnt, xseq, xpar, xmap, xif, xlet, Predicate, xeq, xjudged, xwithtag, xiselement}
 use Rattle.paper.specs.Contexts.{PairContext, firsts}
-use Rattle.paper.specs.Operators.{split, inTwo, Backward, iter, guard}
+use Rattle.paper.specs.Operators.{split, inTwo, Forward, Backward, iter, guard}
 use Rattle.paper.specs.Strict.{strictGuard}
-use Rattle.paper.specs.Semantics.{lengths, branch, taken, forward, asks, backward, holds}
+use Rattle.paper.specs.Semantics.{lengths, branch, taken, judgedBackward, forward, asks, backward, holds}
 use Rattle.paper.specs.Theorems.Brushes.{Permit, FineText}
 use Rattle.paper.specs.Theorems.Ends.{Guarded, passes, stopped, Guarding}
 
@@ -153,6 +153,14 @@ branch-yields : {A : Type 0} (b : Bool) (p q p′ q′ : May A) → Yields p p�
 branch-yields true p q p′ q′ H K = H
 branch-yields false p q p′ q′ H K = K
 
+compared-yields : (fwd : Forward) (X Y : Backward) → ((E : PairContext) (v T : Sequence) → Yields (X E v T) (Y E v T)) → (E : PairContext) (S T : Sequence)
+    → Yields (judgedBackward strictGuard fwd X E S T) (judgedBackward guard fwd Y E S T)
+compared-yields fwd X Y H E S T =
+    yields-after (theString S) _ _ λ x. yields-after (fwd (firsts E) none) _ _ λ U. yields-after (theString U) _ _ λ y.
+    yields-then (strictGuard U y) (guard U y) _ _ (guard-yields U y) λ J.
+    yields-then (X E none J) (Y E none J) _ _ (H E none J) λ r.
+    yields-provided (isNone (r .0)) _ _ (yields-then (strictGuard T x) (guard T x) _ _ (guard-yields T x) λ Q z h. h)
+
 mutual
   unfolding backward
 
@@ -186,10 +194,7 @@ mutual
       yields-then (backward strictGuard X ((k, (S, S)) ∷ E) none T) (backward guard X ((k, (S, S)) ∷ E) none T) taken taken (strict-yields X ((k, (S, S)) ∷ E) none T) λ r z h. h
 
   pub strict-holds : (P : Predicate) (E : PairContext) (S T : Sequence) → Yields (holds strictGuard P E S T) (holds guard P E S T)
-  strict-holds (xeq X) E S T =
-      yields-after (theString S) _ _ λ x. yields-after (forward X (firsts E) none) _ _ λ U. yields-after (theString U) _ _ λ y.
-      yields-then (strictGuard U y) (guard U y) _ _ (guard-yields U y) λ J.
-      yields-then (backward strictGuard X E none J) (backward guard X E none J) _ _ (strict-yields X E none J) λ r.
-      yields-provided (isNone (r .0)) _ _ (yields-then (strictGuard T x) (guard T x) _ _ (guard-yields T x) λ Q z h. h)
+  strict-holds (xeq X) E S T = compared-yields (forward X) (backward strictGuard X) (backward guard X) (λ F v U. strict-yields X F v U) E S T
+  strict-holds (xjudged j X) E S T = compared-yields (forward X) (backward strictGuard X) (backward guard X) (λ F v U. strict-yields X F v U) E S T
   strict-holds (xwithtag t) E S T = λ r h. h
   strict-holds xiselement E S T = λ r h. h

@@ -16,9 +16,9 @@ use Rattle.runs.specs.Theorems.Inversion.{on-gives, both, on-turn}
 use Rattle.runs.specs.Theorems.Conservation.{lock, Law}
 use Rattle.paper.specs.Data.{Sequence, none, _⧺_, len, May, got, _>>=_}
 use Rattle.paper.specs.Contexts.{Context, PairContext}
-use Rattle.paper.specs.Operators.{split, Backward, iter}
+use Rattle.paper.specs.Operators.{split, Forward, Backward, iter}
 use Rattle.paper.specs.Semantics.{onEach, lengths}
-use Rattle.paper.specs.Theorems.Constructs.{Forward, xmap-forward, xmap-backward}
+use Rattle.paper.specs.Theorems.Constructs.{xmap-forward, xmap-backward}
 use Rattle.paper.specs.Theorems.Trees.{seq-none, seq-assoc, Trees, nil, txt, elm, flat, _⊹_, Scope, flatSlots, names, flat-append}
 use Rattle.paper.specs.Theorems.Trees.{itemsOf, items-flat, paint, paintAll, paint-append, Right, RightAll, right-append}
 use Rattle.paper.specs.Theorems.Brushes.{size, length-flat, brush, Permit, Fine, FineAll, clash-stays}

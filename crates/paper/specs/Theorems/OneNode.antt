@@ -6,13 +6,13 @@ use Prim.Native.Nat.{ℕ}
 use native.Mathlib.Omega.{arith}
 use lib.Dec.{eqb}
 use Rattle.lines.specs.Texts.{sameText}
-use Rattle.values.specs.Theorems.MergeLaws.{sameText-refl}
+use Rattle.lines.specs.Theorems.SameTexts.{sameText-refl}
 use Rattle.paper.specs.Data.{Updating, ori, non, mod′, del, ElementUpdating, oriE, delE, From, src, code, Sequence, none, str, elt, _⧺_, len, May}
 use Rattle.paper.specs.Data.{fail, got, _>>=_, _>>_, provided, isNone, theString, Element, theElement, theItem, sameFrom, sameSequence}
-use Rattle.paper.specs.Language.{Construct, xid, xconst, xvar, xchild, xsetcnt, xseq, xpar, xmap, xif, xlet, Predicate, xeq, xwithtag, xiselement}
+use Rattle.paper.specs.Language.{Construct, xid, xconst, xvar, xchild, xsetcnt, xseq, xpar, xmap, xif, xlet, Predicate, xeq, xjudged, xwithtag, xiselement}
 use Rattle.paper.specs.Contexts.{Context, PairContext, firsts, find}
-use Rattle.paper.specs.Operators.{mgString, mgElement, mg, cut, split, Backward, iter, guardString, guard}
-use Rattle.paper.specs.Semantics.{isConstant, updated, onEach, lengths, branch, taken, forward, asks, backward, holds}
+use Rattle.paper.specs.Operators.{mgString, mgElement, mg, cut, split, Forward, Backward, iter, guardString, guard}
+use Rattle.paper.specs.Semantics.{isConstant, updated, onEach, lengths, branch, taken, judgedBackward, forward, asks, backward, holds}
 use Rattle.paper.specs.Theorems.Trees.{seq-none, seq-assoc}
 
 -- ## Executions side by side: where p yields, q yields, and the two are in the relation
@@ -406,6 +406,22 @@ module _ (n : ℕ) where
   taken-copies : (k : ℕ) (C : Context) (S A B : Sequence) (E F : PairContext) → Copies none A B → CopiesAll ((k, S) ∷ C) E F → Follows (Both C S) (taken (A, E)) (taken (B, F))
   taken-copies k C S A B E F (p, q) (T, E₁, R, F₁, e, f, c, d) = rw (p, q, e, f) (follows-got (Both C S) (T, E₁) (R, F₁) (c, d))
 
+  compared-copies : (C : Context) (E F : PairContext) (fwd : Forward) (bwd : Backward)
+      → ((W J J′ : Sequence) → fwd C none ≡ got W → Copies W J J′ → Follows (Both C none) (bwd E none J) (bwd F none J′))
+      → (S T R : Sequence) → CopiesAll C E F → Copies S T R
+      → Follows (Both C S) (judgedBackward guard fwd bwd E S T) (judgedBackward guard fwd bwd F S R)
+  compared-copies C E F fwd bwd H S T R d c =
+      let f = firsts-copies C E F d in
+      follows-after (Both C S) (theString S) _ _ λ x p.
+      follows-again (Both C S) (fwd C none) (fwd (firsts E) none) (fwd (firsts F) none) _ _
+      (ap (λ (D : Context). fwd D none) (f .0)) (ap (λ (D : Context). fwd D none) (f .1)) λ U q.
+      follows-after (Both C S) (theString U) _ _ λ y u.
+      follows-then (Copies U) (Both C S) (guard U y) (guard U y) _ _ (guard-copies U U U y u (copies-same U)) λ J J′ i.
+      follows-then (Both C none) (Both C S) (bwd E none J) (bwd F none J′) _ _ (H U J J′ q i) λ r z j.
+      follows-provided (Both C S) (isNone (r .0)) (isNone (z .0)) _ _ (λ _. ap isNone (j .0 .1))
+      (follows-then (Copies S) (Both C S) (guard T x) (guard R x) _ _ (guard-copies S T R x p c) λ Q Q′ m.
+      follows-got (Both C S) (Q, r .1) (Q′, z .1) (m, j .1))
+
   -- ## The language
 
   mutual
@@ -473,24 +489,15 @@ module _ (n : ℕ) where
         follows-then (Both C S) (Both C S) (branch b (backward guard X E S T) (backward guard Y E S T)) (branch b (backward guard X F S R) (backward guard Y F S R)) _ _
         (follows-branch (Both C S) b (forward X C S) (forward Y C S) W (backward guard X E S T) (backward guard Y E S T) (backward guard X F S R) (backward guard Y F S R)
         (at-got (asks P C S) _ b W p h) (λ q. alone X C E F S W T R d q c) (λ q. alone Y C E F S W T R d q c)) λ r z i.
-        test-alone P C (r .1) (z .1) S b (r .0) (z .0) (i .1) p (i .0)
+        test-alone P C (r .1) (z .1) S (r .0) (z .0) (i .1) (i .0)
     alone (xlet k X) C E F S W T R d h c =
         follows-then (Both ((k, S) ∷ C) none) (Both C S) (backward guard X ((k, (S, S)) ∷ E) none T) (backward guard X ((k, (S, S)) ∷ F) none R) taken taken
         (alone X ((k, S) ∷ C) ((k, (S, S)) ∷ E) ((k, (S, S)) ∷ F) none W T R (S, E, S, F, refl, refl, copies-same S, d) h c) λ r z i.
         taken-copies k C S (r .0) (z .0) (r .1) (z .1) (i .0) (i .1)
 
-    test-alone : (P : Predicate) (C : Context) (E F : PairContext) (S : Sequence) (b : Bool) (T R : Sequence) → CopiesAll C E F → asks P C S ≡ got b → Copies S T R
+    test-alone : (P : Predicate) (C : Context) (E F : PairContext) (S T R : Sequence) → CopiesAll C E F → Copies S T R
         → Follows (Both C S) (holds guard P E S T) (holds guard P F S R)
-    test-alone (xeq X) C E F S b T R d h c =
-        let f = firsts-copies C E F d in
-        follows-after (Both C S) (theString S) _ _ λ x p.
-        follows-again (Both C S) (forward X C none) (forward X (firsts E) none) (forward X (firsts F) none) _ _
-        (ap (λ (D : Context). forward X D none) (f .0)) (ap (λ (D : Context). forward X D none) (f .1)) λ U q.
-        follows-after (Both C S) (theString U) _ _ λ y u.
-        follows-then (Copies U) (Both C S) (guard U y) (guard U y) _ _ (guard-copies U U U y u (copies-same U)) λ J J′ i.
-        follows-then (Both C none) (Both C S) (backward guard X E none J) (backward guard X F none J′) _ _ (alone X C E F none U J J′ d q i) λ r z j.
-        follows-provided (Both C S) (isNone (r .0)) (isNone (z .0)) _ _ (λ _. ap isNone (j .0 .1))
-        (follows-then (Copies S) (Both C S) (guard T x) (guard R x) _ _ (guard-copies S T R x p c) λ Q Q′ m.
-        follows-got (Both C S) (Q, r .1) (Q′, z .1) (m, j .1))
-    test-alone (xwithtag t) C E F S b T R d h c = follows-after (Both C S) (theElement S) _ _ λ a p. follows-got (Both C S) (T, E) (R, F) (c, d)
-    test-alone xiselement C E F S b T R d h c = follows-after (Both C S) (theItem S) _ _ λ a p. follows-got (Both C S) (T, E) (R, F) (c, d)
+    test-alone (xeq X) C E F S T R d c = compared-copies C E F (forward X) (backward guard X) (λ W J J′ q i. alone X C E F none W J J′ d q i) S T R d c
+    test-alone (xjudged j X) C E F S T R d c = compared-copies C E F (forward X) (backward guard X) (λ W J J′ q i. alone X C E F none W J J′ d q i) S T R d c
+    test-alone (xwithtag t) C E F S T R d c = follows-after (Both C S) (theElement S) _ _ λ a p. follows-got (Both C S) (T, E) (R, F) (c, d)
+    test-alone xiselement C E F S T R d c = follows-after (Both C S) (theItem S) _ _ λ a p. follows-got (Both C S) (T, E) (R, F) (c, d)

@@ -17,9 +17,9 @@ use Rattle.runs.specs.Theorems.Inversion.{on-gives, on-bind, both, on-pair}
 use Rattle.runs.specs.Theorems.Conservation.{lock, Law}
 use Rattle.paper.specs.Data.{Sequence, none, got, _>>=_}
 use Rattle.paper.specs.Contexts.{Context}
-use Rattle.paper.specs.Operators.{mg, Backward}
+use Rattle.paper.specs.Operators.{mg, Forward, Backward}
 use Rattle.paper.specs.Semantics.{branch}
-use Rattle.paper.specs.Theorems.Constructs.{Forward, xseq-forward, xpar-forward, xif-forward, xseq-backward, xpar-backward, xif-backward}
+use Rattle.paper.specs.Theorems.Constructs.{xseq-forward, xpar-forward, xif-forward, xseq-backward, xpar-backward, xif-backward}
 use Rattle.paper.specs.Theorems.Constructs.{Asking as Predicated}
 use Rattle.paper.specs.Theorems.Trees.{Trees, flat, _⊹_, Scope, flatSlots, flat-append, paint, paintAll, paint-append, right-append}
 use Rattle.paper.specs.Theorems.Brushes.{size, length-flat, brush, Permit, Fine, FineAll, told, gathered-flat, clash-stays, Merging, whole, torn, merging}

@@ -3,18 +3,19 @@ use mathlib.Core.Path.{refl}
 use mathlib.Core.Bool.{Bool, true, false}
 use Prim.Native.Nat.{ℕ}
 use Rattle.lines.specs.Texts.{sameText}
+use Rattle.lines.specs.Theorems.SameTexts.{sameText-refl}
 use Rattle.values.specs.Values.{program, Lookup, elementOf, bytesOf}
-use Rattle.values.specs.Theorems.MergeLaws.{sameText-refl}
-use Rattle.runs.specs.Programs.{equals, Transformation, source, nothing, text, tag, slot, contents, within}
+use Rattle.runs.specs.Programs.{Transformation, source, nothing, text, tag, slot, contents, within}
 use Rattle.runs.specs.Programs.{andThen, beside, each, choose, bind, Test, compares, tagged, isElement}
-use Rattle.runs.specs.Showing.{show, test}
+use Rattle.runs.specs.Showing.{verdict, show, test}
 use Rattle.runs.specs.PuttingBack.{putBack, putBackTest}
 use Rattle.runs.specs.Reading.{Room}
 use Rattle.runs.specs.Theorems.Conservation.{law}
 use Rattle.runs.specs.Engine.Trees.{Sound, SoundTest}
 use Rattle.paper.specs.Operators.{Guard}
 use Rattle.paper.specs.Semantics.{forward, asks, backward, holds}
-use Rattle.paper.specs.Programs.{inPaper, asked}
+use Rattle.paper.specs.Programs.{worded, judgeOf, inPaper, asked}
+use Rattle.paper.specs.Theorems.Judges.{judges-verdict}
 use Rattle.paper.specs.Theorems.Trees.{nil, txt, elm}
 use Rattle.paper.specs.Theorems.Brushes.{Permit}
 use Rattle.paper.specs.Theorems.Ends.{PutsBack, TestPutsBack, Guarding}
@@ -25,7 +26,7 @@ use Rattle.paper.specs.Theorems.Tests.{tagged-back, element-back, compar
 
 module _ (look : Lookup) (permit : Permit) (watch : ℕ → Bool) (guard : Guard) (G : Guarding look permit watch guard) where
   mutual
-    unfolding show putBack forward backward inPaper Sound bytesOf elementOf sameText
+    unfolding show putBack forward backward worded Sound bytesOf elementOf sameText
 
     pub puts-backward : (X : Transformation) (room : Room) → Sound X room
         → PutsBack look permit watch (room .slots) (show look X) (putBack look X) (forward (inPaper X)) (backward guard (inPaper X))
@@ -59,8 +60,8 @@ module _ (look : Lookup) (permit : Permit) (watch : ℕ → Bool) (guard : Guard
 
     pub tests-backward : (P : Test) (room : Room) → SoundTest P room
         → TestPutsBack look permit watch (room .slots) (test look P) (putBackTest look P) (asks (asked P)) (holds guard (asked P))
-    tests-backward (compares e equals X) room s =
-        compares-back look permit watch guard G (room .slots) e (show look X) (putBack look X)
+    tests-backward (compares e c X) room s =
+        compares-back look permit watch guard G (room .slots) e (verdict c e) (judgeOf c) (judges-verdict c e) (show look X) (putBack look X)
         (forward (inPaper X)) (backward guard (inPaper X)) (puts-backward X room s)
     tests-backward (tagged e t) room s = tagged-back look permit watch (room .slots) e t
     tests-backward (isElement e) room s = element-back look permit watch (room .slots) e

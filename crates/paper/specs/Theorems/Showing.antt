@@ -5,13 +5,13 @@ use mathlib.Core.List.{List, [], _∷_, _++_, map, append-nil}
 use Prim.Native.Nat.{ℕ, _+_}
 use lib.Dec.{leb}
 use lib.ListN.{length}
-use Rattle.lines.specs.Texts.{sameText, agree}
+use Rattle.lines.specs.Texts.{sameText}
 use Rattle.values.specs.Values.{Origin, program, Value, Lookup, elementOf, bytesOf, masterNumber, among, raised, mostNodes, withinBounds}
 use Rattle.runs.specs.declared.stop.Stop.{Stop}
 use Rattle.runs.specs.declared.stop.Stop.the-variants.{Source, Size}
 use Rattle.runs.specs.Results.{Result, gives, stops, ensure}
 use Rattle.runs.specs.Results.{_>>=_ as _⊳_, _>>_ as _⊵_}
-use Rattle.runs.specs.Programs.{equals, Transformation, source, nothing, text, tag, slot, contents, within}
+use Rattle.runs.specs.Programs.{Transformation, source, nothing, text, tag, slot, contents, within}
 use Rattle.runs.specs.Programs.{andThen, beside, each, choose, bind, Test, compares, tagged, isElement}
 use Rattle.runs.specs.Showing.{Shown, Answer, shown, answer, oneTop, oneElement, oneText, bounded, inTurn, verdict, show, test}
 use Rattle.runs.specs.Reading.{Room}
@@ -19,11 +19,14 @@ use Rattle.runs.specs.Theorems.Combinators.{Run, Asking, sourceRun, madeRun, sl
 use Rattle.runs.specs.Theorems.Combinators.{thenRun, besideRun, eachRun, chooseRun, bindRun, comparesAsk, plainAsk}
 use Rattle.runs.specs.Engine.Trees.{Sound, SoundTest}
 use Rattle.paper.specs.Data.{Sequence, none, _⧺_, May, fail, got, _>>=_, theString, theItem}
-use Rattle.paper.specs.Semantics.{onEach, branch, forward, asks}
-use Rattle.paper.specs.Theorems.Constructs.{Forward, xid-forward, xvar-forward, xchild-forward, xsetcnt-forward, xseq-forward, xpar-forward, xmap-forward, xif-forward}
-use Rattle.paper.specs.Theorems.Constructs.{xlet-forward, xeq-forward, xwithtag-forward, xiselement-forward}
+use Rattle.paper.specs.Language.{Judge}
+use Rattle.paper.specs.Operators.{Forward}
+use Rattle.paper.specs.Semantics.{onEach, branch, judgedForward, forward, asks}
+use Rattle.paper.specs.Theorems.Constructs.{xid-forward, xvar-forward, xchild-forward, xsetcnt-forward, xseq-forward, xpar-forward, xmap-forward, xif-forward}
+use Rattle.paper.specs.Theorems.Constructs.{xlet-forward, xwithtag-forward, xiselement-forward}
 use Rattle.paper.specs.Theorems.Constructs.{Asking as Predicated}
-use Rattle.paper.specs.Programs.{inPaper, asked}
+use Rattle.paper.specs.Programs.{worded, judgeOf, inPaper, asked}
+use Rattle.paper.specs.Theorems.Judges.{Judged, Judges, judges-verdict}
 use Rattle.paper.specs.Theorems.Trees.{treesIn, value-trees, right-trees, find-trees, Trees, nil, txt, elm, at, flat, _⊹_}
 use Rattle.paper.specs.Theorems.Trees.{Scope, flatSlots, names, flat-append, flat-raised, itemsOf, items-flat, paint}
 use Rattle.paper.specs.Theorems.Trees.{paintAll, paint-append, Right, RightAll, right-append, ElementView, isElm, notElm}
@@ -41,9 +44,7 @@ module _ (look : Lookup) (marks : ℕ → ℕ) where
   Agrees (stops (Size e)) p = Unit {0}
 
   abbrev pub TestAgrees : Result Stop Answer → May Bool → Type 0
-  TestAgrees (gives a) p = p ≡ got (a .yes)
-  TestAgrees (stops (Source e)) p = p ≡ fail
-  TestAgrees (stops (Size e)) p = Unit {0}
+  TestAgrees r p = Judged (r ⊳ λ a. gives (a .yes)) p
 
   -- of a run, with slots of these names bound
   abbrev pub Shows : List ℕ → Run → Forward → Type 0
@@ -183,17 +184,22 @@ module _ (look : Lookup) (marks : ℕ → ℕ) where
 
   -- ## Tests
 
-  compares-agrees : (ns : List ℕ) (e : ℕ) (run : Run) (fwd : Forward) → Shows ns run fwd → Answers ns (comparesAsk look (verdict equals e) e run) (xeq-forward fwd)
-  unfolding verdict agree
-  compares-agrees ns e run fwd X C s E f F = go (text-view look marks e f F)
+  answer-agrees : (r : Result Stop Bool) (p : May Bool) (c : List ℕ) → Judged r p → TestAgrees (r ⊳ λ b. answer b c) p
+  answer-agrees (gives b) p c h = h
+  answer-agrees (stops (Source e)) p c h = h
+  answer-agrees (stops (Size e)) p c h = tt
+
+  compares-agrees : (ns : List ℕ) (e : ℕ) (says : List ℕ → List ℕ → Result Stop Bool) (judge : Judge) → Judges says judge
+      → (run : Run) (fwd : Forward) → Shows ns run fwd → Answers ns (comparesAsk look says e run) (judgedForward judge fwd)
+  compares-agrees ns e says judge J run fwd X C s E f F = go (text-view look marks e f F)
     where
       second : (o : Origin) (g : Trees) (c : List ℕ) → TextView look marks e g
-          → TestAgrees (oneText look e (flat 0 g) ⊳ λ y. answer (sameText (bytesOf look o) (bytesOf look (y .origin))) (c ++ (masterNumber o ++ masterNumber (y .origin))))
-          (theString (pt g) >>= λ y. got (sameText (bytesOf look o) y))
-      second o g c (isTxt o′ z u w) = rw (u, w)
+          → TestAgrees (oneText look e (flat 0 g) ⊳ λ y. says (bytesOf look o) (bytesOf look (y .origin)) ⊳ λ b. answer b (c ++ (masterNumber o ++ masterNumber (y .origin))))
+          (theString (pt g) >>= judge (bytesOf look o))
+      second o g c (isTxt o′ z u w) = rw (u, w) (answer-agrees (says (bytesOf look o) (bytesOf look o′)) _ _ (J (bytesOf look o) (bytesOf look o′)))
       second o g c (notTxt u w) = rw (u, w)
 
-      go : TextView look marks e f → TestAgrees (comparesAsk look (verdict equals e) e run (flatSlots C) (flat 0 f)) (xeq-forward fwd (paintAll look marks C) (pt f))
+      go : TextView look marks e f → TestAgrees (comparesAsk look says e run (flatSlots C) (flat 0 f)) (judgedForward judge fwd (paintAll look marks C) (pt f))
       go (isTxt o z u w) =
           rw (u, w)
           (then-test-agrees (run (flatSlots C) []) (fwd (paintAll look marks C) none) _ _ (X C s E nil tt) λ g c G. second o g c (text-view look marks e g G))
@@ -217,7 +223,7 @@ module _ (look : Lookup) (marks : ℕ → ℕ) where
   -- ## The language
 
   mutual
-    unfolding show forward inPaper Sound bytesOf elementOf
+    unfolding show forward worded Sound bytesOf elementOf
 
     pub shows-forward : (X : Transformation) (room : Room) → Sound X room → Shows (room .slots) (show look X) (forward (inPaper X))
     shows-forward (source e) room s = source-agrees (room .slots)
@@ -238,6 +244,7 @@ module _ (look : Lookup) (marks : ℕ → ℕ) where
     shows-forward (bind e k X) room s = bind-agrees (room .slots) k (show look X) (forward (inPaper X)) (shows-forward X _ (s .1))
 
     pub tests-forward : (P : Test) (room : Room) → SoundTest P room → Answers (room .slots) (test look P) (asks (asked P))
-    tests-forward (compares e equals X) room s = compares-agrees (room .slots) e (show look X) (forward (inPaper X)) (shows-forward X room s)
+    tests-forward (compares e c X) room s =
+        compares-agrees (room .slots) e (verdict c e) (judgeOf c) (judges-verdict c e) (show look X) (forward (inPaper X)) (shows-forward X room s)
     tests-forward (tagged e t) room s = tagged-agrees (room .slots) e t
     tests-forward (isElement e) room s = element-agrees (room .slots) e

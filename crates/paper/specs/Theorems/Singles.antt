@@ -3,9 +3,10 @@ use mathlib.Core.Path.{_≡_, refl, sym, ap, _∙_}
 use mathlib.Core.Bool.{Bool, true}
 use mathlib.Core.List.{List, [], _∷_, _++_, append-nil}
 use Prim.Native.Nat.{ℕ}
+use Rattle.lines.specs.Theorems.SameTexts.{sameText-refl}
 use Rattle.values.specs.Values.{Origin, Value, Lookup, bytesOf, isFrom, among, lowered, raised}
 use Rattle.values.specs.Standings.{Standing, untouched, isClash, _⋓_, firstOf, restOf, allOver, gathered}
-use Rattle.values.specs.Theorems.MergeLaws.{sameText-refl, unit-left, unit-right, merge-assoc}
+use Rattle.values.specs.Theorems.MergeLaws.{unit-left, unit-right, merge-assoc}
 use Rattle.values.specs.Theorems.Gathering.{only, gathered-untouched, gathered-raised}
 use Rattle.runs.specs.declared.stop.Stop.the-variants.{Source}
 use Rattle.runs.specs.Results.{gives}
@@ -17,9 +18,9 @@ use Rattle.runs.specs.Theorems.Inversion.{no-gives, on-gives, on-bind, on-bound
 use Rattle.runs.specs.Theorems.Conservation.{lock}
 use Rattle.paper.specs.Data.{Sequence, none, elt, got, _>>=_, _>>_, provided, sameSequence}
 use Rattle.paper.specs.Contexts.{Context}
-use Rattle.paper.specs.Operators.{Backward}
+use Rattle.paper.specs.Operators.{Forward, Backward}
 use Rattle.paper.specs.Semantics.{updated}
-use Rattle.paper.specs.Theorems.Constructs.{Forward, xid-forward, xvar-forward, xchild-forward, xsetcnt-forward, xlet-forward, xid-backward, xvar-backward}
+use Rattle.paper.specs.Theorems.Constructs.{xid-forward, xvar-forward, xchild-forward, xsetcnt-forward, xlet-forward, xid-backward, xvar-backward}
 use Rattle.paper.specs.Theorems.Constructs.{xchild-backward, xsetcnt-backward, xlet-backward}
 use Rattle.paper.specs.Theorems.Trees.{treesIn, value-trees, right-trees, find-trees, on-elm, Trees, nil, elm, at, flat}
 use Rattle.paper.specs.Theorems.Trees.{Scope, flatSlots, names, flat-raised, flat-lowered, fromOrigin, paint, paintAll, Right}

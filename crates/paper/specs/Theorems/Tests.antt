@@ -1,26 +1,29 @@
--- Putting back the tests: 12 and 13 do nothing, 11 locks both texts by any guard that locks or clashes.
-use mathlib.Core.Path.{_≡_, refl, sym, ap, subst⁻¹, _∙_}
+-- Putting back the tests: 12 and 13 do nothing; a comparison, whatever its judge, locks both texts by any guard that locks or clashes.
+use mathlib.Core.Path.{_≡_, refl, sym, ap, subst, subst⁻¹, _∙_}
 use mathlib.Core.Bool.{Bool, true}
 use mathlib.Core.List.{List, [], _∷_, _++_}
 use Prim.Native.Nat.{ℕ}
-use Rattle.lines.specs.Texts.{sameText, agree}
+use Rattle.lines.specs.Texts.{sameText}
 use Rattle.values.specs.Values.{Origin, master, program, Node, Value, Lookup, elementOf, bytesOf, isFrom, masterNumber}
 use Rattle.values.specs.Standings.{Standing, untouched, locked, sort, isClash, _⋓_, firstOf, allOver, merged, gathered}
 use Rattle.values.specs.Theorems.MergeLaws.{unit-right, merge-comm, merge-assoc, merge-left-comm}
 use Rattle.values.specs.Theorems.Gathering.{only, merged-first}
+use Rattle.runs.specs.declared.stop.Stop.{Stop}
 use Rattle.runs.specs.declared.stop.Stop.the-variants.{Source}
-use Rattle.runs.specs.Results.{gives}
-use Rattle.runs.specs.Programs.{equals}
-use Rattle.runs.specs.Showing.{Shown, Answer, oneTop, oneElement, oneText, verdict}
+use Rattle.runs.specs.Results.{Result, gives}
+use Rattle.runs.specs.Showing.{Shown, Answer, oneTop, oneElement, oneText}
 use Rattle.runs.specs.PuttingBack.{SlotStandings, gatheredSlots, Back, back}
 use Rattle.runs.specs.Theorems.Combinators.{Run, Putting, comparesAsk, plainAsk}
 use Rattle.runs.specs.Theorems.Combinators.{sourcePut, comparesPut}
 use Rattle.runs.specs.Theorems.Inversion.{no-gives, gives-inj, on-gives, on-bind}
 use Rattle.runs.specs.Theorems.Conservation.{lock, lock-append, lock-number}
 use Rattle.paper.specs.Data.{Sequence, none, got, _>>=_, _>>_, provided, isNone}
+use Rattle.paper.specs.Language.{Judge}
 use Rattle.paper.specs.Contexts.{Context}
-use Rattle.paper.specs.Operators.{split, Backward, Guard}
-use Rattle.paper.specs.Theorems.Constructs.{Forward, xeq-forward, xwithtag-forward, xiselement-forward, xeq-backward, xwithtag-backward, xiselement-backward}
+use Rattle.paper.specs.Operators.{Forward, Backward, Guard}
+use Rattle.paper.specs.Semantics.{judgedForward, judgedBackward}
+use Rattle.paper.specs.Theorems.Constructs.{xwithtag-forward, xiselement-forward, xwithtag-backward, xiselement-backward}
+use Rattle.paper.specs.Theorems.Judges.{Judged, Judges}
 use Rattle.paper.specs.Theorems.Trees.{on-elm, on-txt, Trees, nil, txt, at, flat, Scope, flatSlots, paint, paintAll}
 use Rattle.paper.specs.Theorems.Trees.{TextView, isTxt, notTxt, text-view, ItemView, isItem, notItem, item-view}
 use Rattle.paper.specs.Theorems.Brushes.{brush, Permit, FineText, Fine, FineAll, clash-stays, clash-joins}
@@ -62,24 +65,27 @@ module _ (look : Lookup) (permit : Permit) (watch : ℕ → Bool) where
   lockable (master n) = (refl, permit .locked-permitted n)
   lockable (program e b t) = tt
 
+  -- the answer of a comparison of two texts, where X was shown as a
+  abbrev answered : Shown → Origin → Origin → Bool → Answer
+  answered a w w′ b = record { yes = b; compared = a .compared ++ (masterNumber w ++ masterNumber w′) }
+
   module _ (guard : Guard) (G : Guarding look permit watch guard) where
     -- the source text is w, X's is w′
-    texts-back : (C : Scope) (put : Putting) (fwd : Forward) (bwd : Backward) (w w′ : Origin) (a : Shown) (p : Answer)
-        → (A : Backs look permit C nil a put fwd bwd) → A .g ≡ txt w′ nil
-        → record { yes = sameText (bytesOf look w) (bytesOf look w′); compared = a .compared ++ (masterNumber w ++ masterNumber w′) } ≡ p → Watched watch (p .compared)
-        → TestBacks look permit C (txt w nil) p (comparesPut put) (xeq-forward fwd) (xeq-backward guard fwd bwd)
+    texts-back : (C : Scope) (put : Putting) (judge : Judge) (fwd : Forward) (bwd : Backward) (w w′ : Origin) (a : Shown) (t : Bool)
+        → (A : Backs look permit C nil a put fwd bwd) → A .g ≡ txt w′ nil → judge (bytesOf look w) (bytesOf look w′) ≡ got t → Watched watch (answered a w w′ t .compared)
+        → TestBacks look permit C (txt w nil) (answered a w w′ t) (comparesPut put) (judgedForward judge fwd) (judgedBackward guard fwd bwd)
     unfolding gathered allOver
-    texts-back C put fwd bwd w w′ a p A z ep W =
+    texts-back C put judge fwd bwd w w′ a t A z j W =
         record {
-          forth = rw (A .forth, z) (ap (λ (q : Answer). got (q .yes)) ep);
+          forth = rw (A .forth, z) j;
           back = λ rs us K E.
               let b = put (flatSlots C) [] (locked ∷ []) us in
               let end = back (merged rs (locked ∷ [])) (b .inSlots) in
-              let all = said C (record { value = flat 0 (txt w nil); compared = p .compared }) rs us in
+              let all = said C (record { value = flat 0 (txt w nil); compared = answered a w w′ t .compared }) rs us in
               let own : ℕ → Standing = λ n. only (isFrom n w) (firstOf rs) ⋓ only (isFrom n w) locked in
               let inner = said C a (locked ∷ []) us in
               let split : (n : ℕ) → all n ≡ own n ⋓ inner n = λ n. parts n rs us in
-              ends-at look permit C none (txt w nil) end end (xeq-backward guard fwd bwd (pairs look C us) (pt (txt w nil)) (brush look (txt w nil) rs))
+              ends-at look permit C none (txt w nil) end end (judgedBackward guard fwd bwd (pairs look C us) (pt (txt w nil)) (brush look (txt w nil) rs))
               (bwd (pairs look C us) none (brush look (A .g) (locked ∷ []))
               >>= λ r. provided (isNone (r .0)) >> (guard (brush look (txt w nil) rs) (bytesOf look w) >>= λ Q. got (Q, r .1)))
               all refl
@@ -93,8 +99,7 @@ module _ (look : Lookup) (permit : Permit) (watch : ℕ → Bool) where
       where
         ours : Watched watch (masterNumber w)
         ours =
-            watched-left watch (masterNumber w) (masterNumber w′)
-            (watched-right watch (a .compared) (masterNumber w ++ masterNumber w′) (subst⁻¹ (λ (q : Answer). Watched watch (q .compared)) ep W))
+            watched-left watch (masterNumber w) (masterNumber w′) (watched-right watch (a .compared) (masterNumber w ++ masterNumber w′) W)
 
         guarded : (rs : List Standing) (b : Back) (all : ℕ → Standing)
             → ((n : ℕ) → isClash (only (isFrom n w) (firstOf rs) ⋓ only (isFrom n w) locked) ≡ true → isClash (all n) ≡ true)
@@ -107,11 +112,10 @@ module _ (look : Lookup) (permit : Permit) (watch : ℕ → Bool) where
         guarded rs b all m E (stopped e n c) = failed (rw e) n (m n c)
 
         parts : (n : ℕ) (rs : List Standing) (us : SlotStandings)
-            → said C (record { value = flat 0 (txt w nil); compared = p .compared }) rs us n
+            → said C (record { value = flat 0 (txt w nil); compared = answered a w w′ t .compared }) rs us n
             ≡ (only (isFrom n w) (firstOf rs) ⋓ only (isFrom n w) locked) ⋓ said C a (locked ∷ []) us n
         parts n rs us =
-            ap (λ (q : Answer). said C (record { value = flat 0 (txt w nil); compared = q .compared }) rs us n) (sym ep)
-            ∙ rw (
+            rw (
               lock-append n (a .compared) (masterNumber w ++ masterNumber w′),
               lock-append n (masterNumber w) (masterNumber w′),
               lock-number n w,
@@ -123,38 +127,34 @@ module _ (look : Lookup) (permit : Permit) (watch : ℕ → Bool) where
             settle : (s x y e l : Standing) → s ⋓ untouched ⋓ e ⋓ (l ⋓ (x ⋓ y)) ≡ (s ⋓ x) ⋓ (y ⋓ untouched ⋓ e ⋓ l)
             settle s x y e l = rw (unit-right s, unit-right y) (simp (merge-assoc, merge-comm, merge-left-comm))
 
-    pub compares-back : (ns : List ℕ) (e : ℕ) (run : Run) (put : Putting) (fwd : Forward) (bwd : Backward) → PutsBack look permit watch ns run put fwd bwd
-        → TestPutsBack look permit watch ns (comparesAsk look (verdict equals e) e run) (comparesPut put) (xeq-forward fwd) (xeq-backward guard fwd bwd)
-    unfolding verdict agree
-    compares-back ns e run put fwd bwd X C s R f F p h W =
-        on-txt look noMarks e
-        (λ f. comparesAsk look (verdict equals e) e run (flatSlots C) (flat 0 f) ≡ gives p
-        → TestBacks look permit C f p (comparesPut put) (xeq-forward fwd) (xeq-backward guard fwd bwd))
+    pub compares-back : (ns : List ℕ) (e : ℕ) (says : List ℕ → List ℕ → Result Stop Bool) (judge : Judge) → Judges says judge
+        → (run : Run) (put : Putting) (fwd : Forward) (bwd : Backward) → PutsBack look permit watch ns run put fwd bwd
+        → TestPutsBack look permit watch ns (comparesAsk look says e run) (comparesPut put) (judgedForward judge fwd) (judgedBackward guard fwd bwd)
+    compares-back ns e says judge J run put fwd bwd X C s R f F p h W =
+        on-txt look noMarks e (λ f. comparesAsk look says e run (flatSlots C) (flat 0 f) ≡ gives p → Holds f p)
         (λ f u h. absurd (no-gives (Source e) p (rw u at h)))
         (λ w u h.
         on-bind (run (flatSlots C) []) _ p (rw u at h) λ a q h₂.
         on-bind (oneText look e (a .value)) _ p h₂ λ y t h₃.
-        on-gives (λ z. Watched watch (z .compared) → TestBacks look permit C (txt w nil) z (comparesPut put) (xeq-forward fwd) (xeq-backward guard fwd bwd))
-        (record { yes = sameText (bytesOf look w) (bytesOf look (y .origin)); compared = a .compared ++ (masterNumber w ++ masterNumber (y .origin)) }) p h₃
-        (λ W. one w a y (X C s R nil tt a q (watched-left watch (a .compared) (masterNumber w ++ masterNumber (y .origin)) W)) t W)
+        on-bind (says (bytesOf look w) (bytesOf look (y .origin))) _ p h₃ λ b v h₄.
+        on-gives (λ z. Watched watch (z .compared) → Holds (txt w nil) z) (answered a w (y .origin) b) p h₄
+        (λ W. one w a y b (X C s R nil tt a q (watched-left watch (a .compared) (masterNumber w ++ masterNumber (y .origin)) W)) t v W)
         W)
         f F h
       where
-        one : (w : Origin) (a : Shown) (y : Node) (A : Backs look permit C nil a put fwd bwd) → oneText look e (a .value) ≡ gives y
-            → Watched watch (a .compared ++ (masterNumber w ++ masterNumber (y .origin)))
-            → TestBacks look permit C (txt w nil)
-            (record { yes = sameText (bytesOf look w) (bytesOf look (y .origin)); compared = a .compared ++ (masterNumber w ++ masterNumber (y .origin)) })
-            (comparesPut put) (xeq-forward fwd) (xeq-backward guard fwd bwd)
-        one w a y A t W = go (text-view look noMarks e (A .g) (A .right))
+        Holds : Trees → Answer → Type 0
+        Holds f p = TestBacks look permit C f p (comparesPut put) (judgedForward judge fwd) (judgedBackward guard fwd bwd)
+
+        -- if b is said of the texts of w and x
+        Told : Origin → Shown → Bool → Node → Type 0
+        Told w a b x =
+            says (bytesOf look w) (bytesOf look (x .origin)) ≡ gives b → Watched watch (answered a w (x .origin) b .compared) → Holds (txt w nil) (answered a w (x .origin) b)
+
+        one : (w : Origin) (a : Shown) (y : Node) (b : Bool) (A : Backs look permit C nil a put fwd bwd) → oneText look e (a .value) ≡ gives y → Told w a b y
+        one w a y b A t = go (text-view look noMarks e (A .g) (A .right))
           where
-            go : TextView look noMarks e (A .g)
-                → TestBacks look permit C (txt w nil)
-                (record { yes = sameText (bytesOf look w) (bytesOf look (y .origin)); compared = a .compared ++ (masterNumber w ++ masterNumber (y .origin)) })
-                (comparesPut put) (xeq-forward fwd) (xeq-backward guard fwd bwd)
+            go : TextView look noMarks e (A .g) → Told w a b y
             go (notTxt u q) = absurd (no-gives (Source e) y (sym u ∙ ap (oneText look e) (sym (A .flatIs)) ∙ t))
             go (isTxt w′ z u q) =
-                texts-back C put fwd bwd w w′ a
-                (record { yes = sameText (bytesOf look w) (bytesOf look (y .origin)); compared = a .compared ++ (masterNumber w ++ masterNumber (y .origin)) })
-                A z
-                (ap (λ (x : Node). record { yes = sameText (bytesOf look w) (bytesOf look (x .origin)); compared = a .compared ++ (masterNumber w ++ masterNumber (x .origin)) })
-                (gives-inj (at 0 w′) y (sym u ∙ ap (oneText look e) (sym (A .flatIs)) ∙ t))) W
+                subst (Told w a b) (gives-inj (at 0 w′) y (sym u ∙ ap (oneText look e) (sym (A .flatIs)) ∙ t))
+                (λ v. texts-back C put judge fwd bwd w w′ a b A z (subst (λ (r : Result Stop Bool). Judged r (judge (bytesOf look w) (bytesOf look w′))) v (J _ _)))

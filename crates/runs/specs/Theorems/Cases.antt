@@ -22,7 +22,7 @@ use Rattle.lines.specs.Masters.{depthAfter, placed, boundsFrom, masterBounds, u
 use Rattle.lines.specs.Verdicts.{firstFrom}
 use Rattle.lines.specs.Writing as writing
 use Rattle.lines.specs.Writing.{fileOf}
-use Rattle.lines.specs.Texts.{sameText, agree}
+use Rattle.lines.specs.Texts.{sameText, keptBefore, trimmed, agree}
 use Rattle.values.specs.Values.{among, elementOf, bytesOf, isFrom, masterNumber, isTop, noTop, startsTop, lowered, raised, toFirst, items, shallow, withinBounds}
 use Rattle.values.specs.Standings.{Standing, untouched, changed, deleted, sort, newText, isUntouched, isClash, sameStanding, _⋓_, fitted, allOver, merged, gathered, handsBack}
 use Rattle.runs.specs.Programs.{equals, Transformation, source, nothing, text, tag, slot, contents, within, andThen, beside, each, choose, bind, compares}
@@ -119,7 +119,7 @@ outcome c =
 all-hold : map outcome cases ≡ map (λ c. (c .clash, c .marks)) cases
 unfolding outcome firstClash standing handedBack linesIn numberedFrom lineOf whole show putBack valueIn oneTop oneElement oneText bounded inTurn verdict
     mergedInto untouchedSlots gatheredSlots valueOf saysYes inside overItems elementOf bytesOf isFrom masterNumber isTop noTop startsTop lowered raised toFirst items
-    shallow withinBounds sort newText isUntouched isClash sameStanding _⋓_ fitted allOver merged gathered handsBack isElement sameText agree
+    shallow withinBounds sort newText isUntouched isClash sameStanding _⋓_ fitted allOver merged gathered handsBack isElement sameText keptBefore trimmed agree
 all-hold = refl
 
 -- ## Programs read: soundness and the place of the first fault
@@ -209,7 +209,7 @@ shows =
 
 all-shown : map (λ c. outcomeShown (c .0)) shows ≡ map (λ c. c .1) shows
 unfolding outcomeShown textsFrom nested stopNumber stopEntry showing numberedFrom lineOf whole show valueIn oneTop oneElement oneText bounded inTurn
-    verdict elementOf bytesOf masterNumber isTop noTop startsTop lowered raised toFirst items shallow withinBounds isElement sameText agree
+    verdict elementOf bytesOf masterNumber isTop noTop startsTop lowered raised toFirst items shallow withinBounds isElement sameText keptBefore trimmed agree
 all-shown = refl
 
 -- ## The masters are sound: replies 4 and 5 find no fault in them, nor a mark

@@ -11,7 +11,7 @@ use Rattle.lines.specs.Nodes.{Line, changedMark, isElement, kindRule, lineAt}
 use Rattle.lines.specs.Texts.{sameText}
 use Rattle.lines.specs.Views.{sameHead, sameLine, differenceFrom, firstDifference}
 use Rattle.lines.specs.Theorems.Bools.{and-parts, or-other}
-use Rattle.values.specs.Theorems.MergeLaws.{sameText-sound}
+use Rattle.lines.specs.Theorems.SameTexts.{sameText-sound}
 use Rattle.values.specs.Theorems.Copies.{isCopy}
 use Rattle.runs.specs.Showing.{Shown}
 use Rattle.runs.specs.Grounds.{lineOf, Ground, view}

@@ -89,12 +89,13 @@ only-hi-view-lo = file (line 8 0x0001010002026C6F ∷ [])
 
 -- ## The table
 
--- an example's number in document 01, with a letter where it is more than one view shown and put back, or with the request that it is for; and the case
+-- what a case is of: an example's number in document 01, with a letter where it is more than one view shown and put back, or with the request that it is for;
+-- or, in the table of a request, its subject
 pub record Row : Type 0 where
   pub example : String
   pub case : Case
 
-abbrev row : String → Call → ℕ → ℕ → ℕ → List ℕ → Row
+abbrev pub row : String → Call → ℕ → ℕ → ℕ → List ℕ → Row
 row example call number place length bytes = record { example = example; case = case call number place length bytes }
 
 -- example, call; number, place, length, lines

@@ -9,7 +9,7 @@ use lib.ListN.{length, replicate, length-replicate}
 use borrow.Author.Tests.{le-leb}
 use Rattle.lines.specs.Hex.{isHex, hexValue, decode, hexDigit, encode}
 use Rattle.lines.specs.Lines.{push, cut, pairsThenEnd, isLine}
-use Rattle.lines.specs.Texts.{sameText, agree}
+use Rattle.lines.specs.Texts.{sameText, keptBefore, trimmed, agree}
 use Rattle.lines.specs.Nodes.{Line, nodes, isMarked, isElement, allOf, isTag, kindRule, nodeForm, nodeLine}
 use Rattle.lines.specs.Entries.{rows, rowOf, textForm, operandForm, entryForm, entryLine, entries, slotOf, textOf}
 use Rattle.lines.specs.Files.{formOf, limitOf, scanFrom, scan}
@@ -98,7 +98,7 @@ unfolding answered file
     entries entryLine entryForm operandForm rowOf rows textForm isTag allOf slotOf textOf
     nodes nodeLine nodeForm kindRule isElement isMarked
     masterBounds boundsFrom placed depthAfter unmarked firstFrom earlier
-    firstDifference differenceFrom sameLine sameHead programMark programMarked markCounted sameText agree
+    firstDifference differenceFrom sameLine sameHead programMark programMarked markCounted sameText keptBefore trimmed agree
     readProgram below makes operations among
     showing show whole numberedFrom grounds.lineOf valueIn oneTop oneElement oneText bounded inTurn verdict stopNumber stopEntry
     elementOf values.bytesOf isFrom masterNumber isTop noTop startsTop lowered raised toFirst items shallow withinBounds view shownLine

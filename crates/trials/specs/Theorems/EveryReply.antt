@@ -16,7 +16,7 @@ replyTo (ample c) = numberOf (outcomeOf c roomyOut roomyWork)
 replyTo (none c) = numberOf (outcomeOf c [] [])
 
 -- the whole twice
-abbrev twice : List ℕ
+abbrev pub twice : List ℕ
 twice = file (line 1 0x09 ∷ line 1 0x01 ∷ line 1 0x01 ∷ [])
 
 -- twice, five times over: 160 nodes of the five of M

@@ -1,45 +1,16 @@
 -- Merging is a join: untouched is its unit, it is commutative, associative and idempotent, and a clash stays.
 use mathlib.Core.Path.{_≡_, refl, sym, ap, subst, _∙_}
 use mathlib.Core.Bool.{Bool, true, false, cond}
-use mathlib.Core.List.{List, [], _∷_}
+use mathlib.Core.List.{List}
 use Prim.Native.Nat.{ℕ}
 use lib.Dec.{eqb}
-use borrow.Author.Tests.{eqb-true, eq-eqb, eqb-false, ne-eqb}
+use borrow.Author.Tests.{eqb-true, eq-eqb}
 use Rattle.lines.specs.Texts.{sameText}
 use Rattle.lines.specs.Theorems.Bools.{and-parts}
+use Rattle.lines.specs.Theorems.SameTexts.{sameText-sound, sameText-refl}
 use Rattle.values.specs.Standings.{Standing, untouched, locked, changed, deleted, clash, sort, newText, isUntouched, isClash, sameStanding, _⋓_}
 
 -- ## Equal standings
-
-pub sameText-sound : (s t : List ℕ) → sameText s t ≡ true → s ≡ t
-unfolding sameText
-sameText-sound [] [] e = refl
-sameText-sound [] (y ∷ t) e = cc
-sameText-sound (x ∷ s) [] e = cc
-sameText-sound (x ∷ s) (y ∷ t) e =
-    let p = and-parts (eqb x y) (sameText s t) e in
-    let q = eqb-true x y (p .0) in
-    let r = sameText-sound s t (p .1) in
-    cc
-
-eqb-comm : (x y : ℕ) → eqb x y ≡ eqb y x
-eqb-comm x y = go (eqb y x) refl
-  where
-    go : (b : Bool) → eqb y x ≡ b → eqb x y ≡ b
-    go true e = eq-eqb x y (sym (eqb-true y x e))
-    go false e = ne-eqb x y (λ p. eqb-false y x e (sym p))
-
-pub sameText-refl : (s : List ℕ) → sameText s s ≡ true
-unfolding sameText
-sameText-refl [] = refl
-sameText-refl (x ∷ s) = rw (eq-eqb x x refl) (sameText-refl s)
-
-pub sameText-comm : (s t : List ℕ) → sameText s t ≡ sameText t s
-unfolding sameText
-sameText-comm [] [] = refl
-sameText-comm [] (y ∷ t) = refl
-sameText-comm (x ∷ s) [] = refl
-sameText-comm (x ∷ s) (y ∷ t) = rw (eqb-comm x y, sameText-comm s t)
 
 -- a standing is its sort and its text
 ofSort : ℕ → List ℕ → Standing

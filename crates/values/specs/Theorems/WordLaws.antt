@@ -10,10 +10,11 @@ use lib.ListN.{length, getD, take, length-map}
 use borrow.Author.Tests.{ltb-true, ltb-false, lt-ltb, le-ltb, eqb-true, eqb-false, eq-eqb, ne-eqb, leb-true}
 use Rattle.lines.specs.Texts.{sameText}
 use Rattle.lines.specs.Theorems.Bools.{and-left, and-right}
+use Rattle.lines.specs.Theorems.SameTexts.{sameText-comm}
 use Rattle.values.specs.Values.{Node, Value, isTop, lowered, raised, shallow}
 use Rattle.values.specs.Standings.{Standing, untouched, locked, changed, deleted, clash, sort, newText, isUntouched, sameStanding, _⋓_, merged}
 use Rattle.values.specs.Engine.Words.{part, Made, originOf, nodeOf, valueAt, loweredWord, raisedWord, standingOf, standingsAt, Named, AllNamed, mergedWord, mergedWords}
-use Rattle.values.specs.Theorems.MergeLaws.{sameText-comm, same-refl}
+use Rattle.values.specs.Theorems.MergeLaws.{same-refl}
 use Rattle.values.specs.Theorems.Extents.{length-part, part-join, part-cons, frame-part}
 
 map-append : {A B : Type 0} (f : A → B) (k l : List A) → map f (k ++ l) ≡ map f k ++ map f l
