@@ -43,11 +43,12 @@ allOf f (x ∷ xs) = f x && allOf f xs
 unfoldable pub isTag : List ℕ → Bool
 isTag t = leb 1 (length t) && allOf (between 0x21 0x7E) t
 
--- what a kind asks of the mark and of the bytes. Kind 01, a text: any mark and any bytes. Kind 02, an element: "Mark 01 stands only on a text", and a tag
+-- what a kind asks of the mark and of the bytes: a mark that there is, and for kind 01, a text, nothing more; for kind 02, an element, "Mark 01 stands only on a text", and a tag
 unfoldable pub kindRule : ℕ → ℕ → List ℕ → Bool
 kindRule kind mark text =
-    cond (eqb kind 1) (leb mark deletedMark)
-    (cond (isElement kind) (not (eqb mark changedMark) && (leb mark deletedMark && isTag text))
+    leb mark deletedMark
+    && cond (eqb kind 1) true
+    (cond (isElement kind) (not (eqb mark changedMark) && isTag text)
     false)
 
 -- the bytes of a node's line. Depth and number are free in form

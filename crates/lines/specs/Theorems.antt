@@ -10,6 +10,7 @@ pub mod Reading
 pub mod Widths
 pub mod LongFiles
 pub mod RoundTrip
+pub mod KindRules
 pub mod LineRules
 pub mod MasterRules
 pub mod CountedMarks

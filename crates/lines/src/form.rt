@@ -71,16 +71,16 @@ pub fn is_element(kind: u8) -> bool
 fn kind_rule(kind: u8, mark: u8, d: &[u8]) -> bool
     ensures { λ r. ⌜ r ≡ kindRule kind mark (decode (now (d .entry))) ⌝ }
 {
+    if 2 < mark {
+        return false;
+    }
     if kind == 1 {
-        return mark <= 2;
+        return true;
     }
     if !is_element(kind) {
         return false;
     }
     if mark == 1 {
-        return false;
-    }
-    if 2 < mark {
         return false;
     }
     is_tag(d)

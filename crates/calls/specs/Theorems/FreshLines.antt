@@ -12,7 +12,7 @@ use Rattle.lines.specs.declared.scan.Scan.the-variants.{Lines, Wrong}
 use Rattle.lines.specs.declared.verdict.Verdict.the-variants.{Fine}
 use Rattle.lines.specs.Hex.{decode}
 use Rattle.lines.specs.Lines.{cut, isLine}
-use Rattle.lines.specs.Nodes.{Line, untouchedMark, isElement, isTag, kindRule}
+use Rattle.lines.specs.Nodes.{Line, untouchedMark, isTag, kindRule}
 use Rattle.lines.specs.Entries.{Entry, rows, rowOf, textForm, operandForm, entryForm, entryLine, entryOf, entries, textOf}
 use Rattle.lines.specs.Files.{formOf, limitOf, scanFrom, scan}
 use Rattle.lines.specs.Masters.{masterBounds}
@@ -21,6 +21,7 @@ use Rattle.lines.specs.Theorems.Bools.{and-left, and-right}
 use Rattle.lines.specs.Theorems.Pairs.{decode-bytes}
 use Rattle.lines.specs.Theorems.Widths.{file-short}
 use Rattle.lines.specs.Theorems.RoundTrip.{view-of-nodes, scan-written}
+use Rattle.lines.specs.Theorems.KindRules.{text-rule, tag-rule}
 use Rattle.lines.specs.Theorems.LineRules.{Short, Fields, rule-made, fields-writable, writable-fields, no-line}
 use Rattle.lines.specs.Engine.Writes.{Bytes, Writable, AllWritable}
 use Rattle.values.specs.Values.{Origin, Value}
@@ -114,15 +115,6 @@ whole-fits : (few k : ℕ) (ls : List Line) → k + length ls ≤ few → All (F
 unfolding whole numberedFrom
 whole-fits few k [] h = tt
 whole-fits few k (l ∷ ls) h = (omega arith, whole-fits few (suc k) ls (omega arith))
-
--- a text is of kind 01, and so keeps the rule; an element's bytes are its tag
-text-rule : (t : List ℕ) → kindRule 1 untouchedMark t ≡ true
-unfolding kindRule
-text-rule t = refl
-
-tag-rule : (t : List ℕ) → isTag t ≡ true → kindRule 2 untouchedMark t ≡ true
-unfolding kindRule isElement
-tag-rule t h = h
 
 -- of any ground's lines that can be written
 module _ (ls : List Line) (form : AllWritable ls) (few : length ls ≤ 128) where

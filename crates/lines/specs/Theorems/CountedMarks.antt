@@ -14,7 +14,8 @@ use Rattle.lines.specs.Texts.{sameText}
 use Rattle.lines.specs.Verdicts.{firstFrom}
 use Rattle.lines.specs.Views.{sameHead, sameLine, differenceFrom, programMarked, markCounted, countedLine, countedLines}
 use Rattle.lines.specs.Theorems.Bools.{never, and-left, and-right, and-both}
-use Rattle.lines.specs.Theorems.LineRules.{Fields, rule-made, rule-kind, rule-short, rule-without-mark, writable-fields, fields-writable}
+use Rattle.lines.specs.Theorems.KindRules.{rule-without-mark}
+use Rattle.lines.specs.Theorems.LineRules.{Fields, rule-made, rule-kind, rule-short, writable-fields, fields-writable}
 use Rattle.lines.specs.Engine.Writes.{AllWritable}
 
 -- ## One line

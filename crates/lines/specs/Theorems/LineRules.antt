@@ -1,15 +1,16 @@
 -- A line that can be written, said of its fields: depth and number are small, and one rule holds of kind, mark and text.
 use mathlib.Core.Path.{_≡_, refl}
-use mathlib.Core.Bool.{Bool, true, false, cond, not, _&&_}
+use mathlib.Core.Bool.{Bool, true, _&&_}
 use mathlib.Core.List.{List, [], _∷_}
 use Prim.Native.Nat.{ℕ, zero, suc, _+_, _/_, _≤_, _<_}
 use native.Mathlib.Omega.{arith}
 use lib.Dec.{leb, ltb, eqb}
 use lib.ListN.{length, getD}
-use borrow.Author.Tests.{leb-true, le-leb, ltb-true, lt-ltb, eqb-true, eq-eqb}
-use Rattle.lines.specs.Nodes.{Line, untouchedMark, changedMark, deletedMark, isElement, isTag, allOf, kindRule, nodeForm, noLine}
+use borrow.Author.Tests.{leb-true, le-leb, ltb-true, lt-ltb, eq-eqb}
+use Rattle.lines.specs.Nodes.{Line, untouchedMark, allOf, kindRule, nodeForm, noLine}
 use Rattle.lines.specs.Writing.{bytesOf}
-use Rattle.lines.specs.Theorems.Bools.{never, and-left, and-right, and-both}
+use Rattle.lines.specs.Theorems.Bools.{and-left, and-right, and-both}
+use Rattle.lines.specs.Theorems.KindRules.{text-rule, rule-small}
 use Rattle.lines.specs.Engine.Writes.{Bytes, Writable, AllWritable}
 
 -- ## Texts
@@ -65,48 +66,12 @@ pub rule-short : (kind mark : ℕ) (text : List ℕ) → lineRule kind mark text
 unfolding lineRule
 rule-short kind mark text h = true-short text (and-right (kindRule kind mark text) (isShort text) h)
 
--- kinds are 1 and 2, marks 0 to 2
-small-kind : (kind mark : ℕ) (text : List ℕ) → kindRule kind mark text ≡ true → (kind < 256) × (mark < 256)
-unfolding kindRule isElement
-small-kind kind mark text h = go (eqb kind 1) (eqb kind 2) refl refl h
-  where
-    go : (a b : Bool) → eqb kind 1 ≡ a → eqb kind 2 ≡ b
-        → cond a (leb mark deletedMark) (cond b (not (eqb mark changedMark) && (leb mark deletedMark && isTag text)) false) ≡ true
-        → (kind < 256) × (mark < 256)
-    go true b e f q = let k = eqb-true kind 1 e in let m = leb-true mark deletedMark q in (omega arith, omega arith)
-    go false true e f q =
-        let k = eqb-true kind 2 f in
-        let m = leb-true mark deletedMark (and-left (leb mark deletedMark) (isTag text) (and-right (not (eqb mark changedMark)) _ q)) in
-        (omega arith, omega arith)
-    go false false e f q = never q
-
--- "Mark 00 untouched, 01 changed, 02 deleted": the form has no other
-pub rule-mark : (kind mark : ℕ) (text : List ℕ) → kindRule kind mark text ≡ true → mark ≤ deletedMark
-unfolding kindRule
-rule-mark kind mark text h = go (eqb kind 1) (isElement kind) h
-  where
-    go : (a b : Bool) → cond a (leb mark deletedMark) (cond b (not (eqb mark changedMark) && (leb mark deletedMark && isTag text)) false) ≡ true → mark ≤ deletedMark
-    go true b q = leb-true mark deletedMark q
-    go false true q = leb-true mark deletedMark (and-left (leb mark deletedMark) (isTag text) (and-right (not (eqb mark changedMark)) _ q))
-    go false false q = never q
-
--- what a kind asks of the bytes it asks without a mark too
-pub rule-without-mark : (kind mark : ℕ) (text : List ℕ) → kindRule kind mark text ≡ true → kindRule kind untouchedMark text ≡ true
-unfolding kindRule
-rule-without-mark kind mark text h = go (eqb kind 1) (isElement kind) h
-  where
-    go : (a b : Bool) → cond a (leb mark deletedMark) (cond b (not (eqb mark changedMark) && (leb mark deletedMark && isTag text)) false) ≡ true
-        → cond a true (cond b (isTag text) false) ≡ true
-    go true b q = refl
-    go false true q = and-right (leb mark deletedMark) (isTag text) (and-right (not (eqb mark changedMark)) _ q)
-    go false false q = q
-
 pub fields-writable : (l : Line) → Fields l → Writable l
 unfolding bytesOf nodeForm
 fields-writable l f =
     let k = rule-kind (l .kind) (l .mark) (l .text) (f .rule) in
     let s = rule-short (l .kind) (l .mark) (l .text) (f .rule) in
-    let small = small-kind (l .kind) (l .mark) (l .text) k in
+    let small = rule-small (l .kind) (l .mark) (l .text) k in
     let n = f .number in
     let t = s .few in
     record {
@@ -131,8 +96,7 @@ writable-fields l w =
 -- ## Lists of lines
 
 pub no-line : Fields noLine
-unfolding lineRule kindRule isShort allOf
-no-line = record { depth = omega arith; number = omega arith; rule = refl }
+no-line = record { depth = omega arith; number = omega arith; rule = rule-made 1 untouchedMark [] (text-rule []) (record { few = omega arith; bytes = tt }) }
 
 -- every line, and the one that stands for those that are missing
 pub fields-at : (ls : List Line) → AllWritable ls → (i : ℕ) → Fields (getD ls i noLine)

@@ -9,7 +9,7 @@ use Rattle.lines.specs.declared.verdict.Verdict.the-variants.{Fine as Faultless
 use Rattle.lines.specs.Nodes.{Line, isElement, kindRule, lineAt}
 use Rattle.lines.specs.Masters.{depthAfter, masterBounds}
 use Rattle.lines.specs.Views.{sameLine, differenceFrom}
-use Rattle.lines.specs.Theorems.LineRules.{rule-mark}
+use Rattle.lines.specs.Theorems.KindRules.{rule-mark, element-mark}
 use Rattle.values.specs.Values.{Origin, master, program, Node, Value, elementOf, mostNodes}
 use Rattle.values.specs.Standings.{Standing, handsBack}
 use Rattle.values.specs.Theorems.Edits.{handsBack-head}
@@ -17,7 +17,6 @@ use Rattle.values.specs.Theorems.Forests.{Walk, Forest}
 use Rattle.runs.specs.Grounds.{numberedFrom, lookupIn, whole, oneMaster, shownLine, view, linesIn, handedBack}
 use Rattle.runs.specs.Theorems.Bounds.{master-good}
 use Rattle.runs.specs.Theorems.ViewLines.{shownLine-depth}
-use Rattle.runs.specs.Theorems.SameView.{element-mark}
 use Rattle.calls.specs.Theorems.ShownNumbers.{line-of}
 use Rattle.calls.specs.Theorems.ViewEdits.{same-alike}
 use Rattle.paper.specs.Lines.{fromOf, textKind, kindsIn}

@@ -13,6 +13,7 @@ use Rattle.lines.specs.Verdicts.{firstFrom}
 use Rattle.lines.specs.Views.{sameLine, differenceFrom, programMarked, countedLine, countedLines}
 use Rattle.lines.specs.Masters.{depthAfter, placed, boundsFrom}
 use Rattle.lines.specs.Theorems.Bools.{never, and-parts}
+use Rattle.lines.specs.Theorems.KindRules.{element-mark}
 use Rattle.lines.specs.Theorems.CountedMarks.{counted-same, counted-free, counted-rule}
 use Rattle.values.specs.Values.{Origin, master, program, Node, Value, Lookup, elementOf, bytesOf}
 use Rattle.values.specs.Standings.{Standing, untouched, locked, changed, deleted, clash, sort, isClash, firstOf, restOf, says, brings, handsBack}
@@ -21,7 +22,6 @@ use Rattle.values.specs.Theorems.Copies.{standingAt}
 use Rattle.values.specs.Theorems.Edits.{by-mark, brings-fromLine, handsBack-head}
 use Rattle.runs.specs.Grounds.{Numbered, numberedFrom, lineOf, linesIn, lookupIn, whole, Ground, shownLine, view, brought, handedBack}
 use Rattle.runs.specs.Theorems.ViewLines.{shownLine-depth}
-use Rattle.runs.specs.Theorems.SameView.{element-mark}
 use Rattle.calls.specs.Theorems.ViewEdits.{Alike, same-alike}
 use Rattle.paper.specs.Data.{ori, mod′, del, oriE, delE}
 use Rattle.paper.specs.Lines.{updatingOf, elementUpdatingOf}

@@ -1,6 +1,6 @@
 -- A view beside the fresh one, in which reply 9 finds no difference: each line of a node has the
 -- node's kind and, unless it is marked 01, its bytes; and mark 01 stands on no element.
-use mathlib.Core.Path.{_≡_, refl, sym, ap, _∙_}
+use mathlib.Core.Path.{_≡_, refl, ap, _∙_}
 use mathlib.Core.Bool.{Bool, true, false, cond, _&&_, _||_}
 use mathlib.Core.List.{List, [], _∷_}
 use Prim.Native.Nat.{ℕ, zero, suc}
@@ -12,6 +12,7 @@ use Rattle.lines.specs.Texts.{sameText}
 use Rattle.lines.specs.Views.{sameHead, sameLine, differenceFrom, firstDifference}
 use Rattle.lines.specs.Theorems.Bools.{and-parts, or-other}
 use Rattle.lines.specs.Theorems.SameTexts.{sameText-sound}
+use Rattle.lines.specs.Theorems.KindRules.{element-mark}
 use Rattle.values.specs.Theorems.Copies.{isCopy}
 use Rattle.runs.specs.Showing.{Shown}
 use Rattle.runs.specs.Grounds.{lineOf, Ground, view}
@@ -51,15 +52,6 @@ same-formed rule G o ls h forms n i c =
       kind = eqb-true (w .kind) (f .kind) (k .0) ∙ v .kind;
       text = λ m. sameText-sound (w .text) (f .text) (or-other (eqb (w .mark) changedMark) (sameText (w .text) (f .text)) m (s .1)) ∙ v .text;
     }
-
--- "Mark 01 stands only on a text"
-pub element-mark : (kind mark : ℕ) (text : List ℕ) → isElement kind ≡ true → kindRule kind mark text ≡ true → eqb mark changedMark ≡ false
-unfolding kindRule isElement
-element-mark kind mark text e h = go (eqb mark changedMark) refl
-  where
-    go : (b : Bool) → eqb mark changedMark ≡ b → b ≡ false
-    go false m = refl
-    go true m = sym (rw (eqb-true kind 2 e, eqb-true mark changedMark m) at h)
 
 pub same-textMarks : (G : Ground) (o : Shown) (ls : List Line) → ((n i : ℕ) → isCopy n (o .value) i ≡ true → FormedLike kindRule (lineAt ls i) (lineOf (G .lines) n))
     → TextMarks G o ls

@@ -12,7 +12,8 @@ use Rattle.lines.specs.Masters.{depthAfter, placed, boundsFrom, masterBounds}
 use Rattle.lines.specs.Engine.Writes.{Writable, AllWritable}
 use Rattle.lines.specs.Theorems.Bools.{never}
 use Rattle.lines.specs.Theorems.MasterRules.{bounds-first}
-use Rattle.lines.specs.Theorems.LineRules.{rule-made, rule-kind, rule-short, rule-without-mark, fields-writable, writable-fields}
+use Rattle.lines.specs.Theorems.KindRules.{rule-without-mark}
+use Rattle.lines.specs.Theorems.LineRules.{rule-made, rule-kind, rule-short, fields-writable, writable-fields}
 use Rattle.sweeping.specs.declared.removal.Above.{Above}
 use Rattle.sweeping.specs.declared.removal.Above.the-variants.{Nothing, Deleted}
 use Rattle.sweeping.specs.Sweeping.{isUnder, isDeleted, goes, behind, removedUnder, removed, kept, anew, numberedAnew, swept}
