@@ -38,7 +38,8 @@ typedef size_t meadcinder_size;
 #define MEADCINDER_PLACE(answer) ((unsigned)((answer) >> 16 & 0xFFFF))
 #define MEADCINDER_LENGTH(answer) ((unsigned)((answer) & 0xFFFF))
 
-/* The numbers, in the order of judging: the first that applies is given, at its first place. Places count from 0. */
+/* The numbers, in the order of judging: the first that applies is given, at its first place. Places count from 0. A word
+   order (a node of kind 03) is exactly hi-lo or lo-hi, whatever its mark: with other bytes its line has a wrong form. */
 enum meadcinder_number {
     MEADCINDER_DONE = 0,                 /* place 0 */
     MEADCINDER_SHORT_BUFFER = 1,         /* a buffer to be written to has too little room; place 0 */
@@ -64,8 +65,9 @@ meadcinder_answer meadcinder_show(const unsigned char *master, meadcinder_size m
                                   unsigned char *output, meadcinder_size output_room);
 
 /* Writes the master with the edits of the view, which is that of meadcinder_show with lines changed or deleted. A text
-   marked 01 (changed) that is still the one shown counts as untouched; MEADCINDER_PROGRAM_LINE_MARKED looks at the mark
-   as it is written. Gives the numbers 0 to 11. */
+   or word order marked 01 (changed) that is still the one shown counts as untouched; MEADCINDER_PROGRAM_LINE_MARKED
+   looks at the mark as it is written. Every node keeps its kind, and no other word than hi-lo or lo-hi is ever written
+   into a word order. Gives the numbers 0 to 11. */
 meadcinder_answer meadcinder_put_back(const unsigned char *master, meadcinder_size master_length,
                                       const unsigned char *program, meadcinder_size program_length,
                                       const unsigned char *view, meadcinder_size view_length,

@@ -127,9 +127,7 @@ impl<'a> Desk<'a> {
             Stage::MasterBounds => refuse(5, self.master_fault()),
             Stage::Run => self.run(),
             Stage::ViewForm => self.view_form(),
-            Stage::ViewComparison => {
-                refuse(9, view::first_difference(&self.fresh, &self.view, &self.rules.judging))
-            }
+            Stage::ViewComparison => refuse(9, self.view_difference()),
             Stage::ProgramMarks => {
                 refuse(10, view::first_marked_program_line(self.sides(), self.rules))
             }
@@ -150,7 +148,8 @@ impl<'a> Desk<'a> {
     }
 
     fn master_form(&mut self) -> Result<(), Reply> {
-        let read = node_line::read_file(&self.case.master, &self.rules.lines);
+        let orders = self.rules.lines.orders.in_masters;
+        let read = node_line::read_file(&self.case.master, &self.rules.lines.with_orders(orders));
         if let Err(place) = read
             && !self.rules.judging.whole_file_for_one_number
         {
@@ -175,7 +174,8 @@ impl<'a> Desk<'a> {
             MarkedMaster::NeverRefused => true,
             MarkedMaster::AlwaysRefused => false,
         };
-        master::first_fault(&self.master, self.rules.bounds.master_depth, marks_allowed)
+        let fault = master::first_fault(&self.master, &self.rules.bounds, marks_allowed);
+        first_of(fault, node_line::first_wrong_order(&self.master, &self.rules.lines))
     }
 
     fn program(&self) -> &Transformation {
@@ -198,9 +198,15 @@ impl<'a> Desk<'a> {
     }
 
     fn view_form(&mut self) -> Result<(), Reply> {
-        self.view = node_line::read_file(&self.case.view, &self.rules.lines)
+        let orders = self.rules.lines.orders.in_views;
+        self.view = node_line::read_file(&self.case.view, &self.rules.lines.with_orders(orders))
             .map_err(|place| Reply::refusal(8, place))?;
         Ok(())
+    }
+
+    fn view_difference(&self) -> Option<usize> {
+        let difference = view::first_difference(&self.fresh, &self.view, &self.rules.judging);
+        first_of(difference, node_line::first_wrong_order(&self.view, &self.rules.lines))
     }
 
     fn sides(&self) -> Sides<'_> {
@@ -224,6 +230,11 @@ impl<'a> Desk<'a> {
 
 fn refuse(number: u8, fault: Option<usize>) -> Result<(), Reply> {
     fault.map_or(Ok(()), |place| Err(Reply::refusal(number, place)))
+}
+
+/// The first of two places, of which either may be missing.
+fn first_of(one: Option<usize>, other: Option<usize>) -> Option<usize> {
+    one.into_iter().chain(other).min()
 }
 
 fn rooms_fault(case: &Case, rooms: &rules::Rooms) -> Option<usize> {
@@ -281,6 +292,7 @@ fn returned_master(
             }
             Standing::Deleted => line.mark = Mark::Deleted,
         }
+        line.kind = line.kind_handed_on(rules.orders_stay);
         let under_deleted = deleted_above.is_some_and(|depth| line.depth > depth);
         if !under_deleted {
             deleted_above = (line.mark == Mark::Deleted).then_some(line.depth);

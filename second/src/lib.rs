@@ -1,5 +1,5 @@
-//! The independent second program: document 01 and requests #101, #103 and #104 over trees that own
-//! their texts and standings.
+//! The independent second program: document 01 and requests #101, #103, #104 and #106 over trees
+//! that own their texts and standings.
 
 pub mod calls;
 pub mod cases;

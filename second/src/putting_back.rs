@@ -67,6 +67,10 @@ impl<'a> PuttingBack<'a> {
         source: &[Tree],
         view: Value,
     ) -> Result<Value, Stop> {
+        if let [Tree::Text { .. }] = source {
+            // Shown as it is, by mistake.
+            return Ok(view);
+        }
         let standing = match self.rules.putting_back.within_takes_the_mark {
             true => view[0].node().standing.clone(),
             false => Standing::Untouched,
@@ -210,6 +214,8 @@ fn around(source: &[Tree], standing: Standing, contents: Value) -> Value {
             let node = Node { standing, ..node.clone() };
             vec![Tree::Element { node, tag: tag.clone(), contents }]
         }
+        // Without contents, by mistake.
+        [Tree::Text { is_order: true, .. }] => source.to_vec(),
         _ => unreachable!("showing stops where the source is not one element"),
     }
 }

@@ -1,6 +1,8 @@
-//! What document 01 and requests #101, #103 and #104 fix, as values. `Rules::document()` is what
-//! they say; the tests change one value at a time to see that the committed cases tell each wrong
-//! reading apart.
+//! What document 01 and requests #101, #103, #104 and #106 fix, as values. `Rules::document()` is
+//! what they say; the tests change one value at a time to see that the committed cases tell each
+//! wrong reading apart.
+
+use crate::node_line::Mark;
 
 #[derive(Clone, Debug)]
 pub struct Rules {
@@ -34,6 +36,42 @@ pub struct Lines {
     pub last_line_may_lack_its_end: bool,
     pub number_low_byte_first: bool,
     pub element_may_be_changed: bool,
+    pub orders: Orders,
+}
+
+/// The form of lines of kind 03.
+#[derive(Clone, Debug)]
+pub struct Orders {
+    pub words: Vec<&'static [u8]>,
+    pub spelling: Spelling,
+    pub asked_under: Vec<Mark>,
+    pub may_be_changed: bool,
+    pub in_masters: OrdersInFile,
+    pub in_views: OrdersInFile,
+}
+
+/// Which orders the form of a file lets through.
+#[derive(Clone, Copy, Debug, PartialEq, Eq)]
+pub enum OrdersInFile {
+    OfTheWords,
+    /// The bounds of a master and the comparison of a view ask for the words.
+    OfAnyBytes,
+    None,
+}
+
+/// When bytes are a word order.
+#[derive(Clone, Copy, Debug, PartialEq, Eq)]
+pub enum Spelling {
+    ByteForByte,
+    Any,
+    InEitherCase,
+    ButForPadding,
+    ButForSpacesInFront,
+    BeginsWithTheWord,
+    BeginsTheWord,
+    BehindTheFirstByte,
+    BeforeTheLastByte,
+    AsLong,
 }
 
 /// The bounds of masters, programs and values.
@@ -49,6 +87,7 @@ pub struct Bounds {
     pub entries_may_be_left_over: bool,
     pub missing_entry_is_behind_the_last: bool,
     pub tests_see_the_slots: bool,
+    pub order_may_have_contents: bool,
 }
 
 #[derive(Clone, Debug)]
@@ -63,6 +102,13 @@ pub struct Showing {
     pub tests_stop_for_their_source: bool,
     pub marks_are_kept: bool,
     pub padding_is_kept: bool,
+    pub made_words_are_orders: bool,
+    pub order_is_a_source_of_11: bool,
+    pub order_is_a_result_for_11: bool,
+    pub order_is_an_element_for_13: bool,
+    pub order_stops_06: bool,
+    pub order_stops_07: bool,
+    pub order_stops_12: bool,
 }
 
 /// When test 11 says yes. The padding of a text is the spaces behind its last other byte.
@@ -106,6 +152,15 @@ pub struct PuttingBack {
     pub deletion_spreads: bool,
     pub deleted_keep_their_contents: bool,
     pub new_texts_keep_their_padding: bool,
+    pub orders_stay: OrdersStay,
+}
+
+/// Which orders are written with kind 03, and not with 01.
+#[derive(Clone, Copy, Debug, PartialEq, Eq)]
+pub enum OrdersStay {
+    All,
+    Unchanged,
+    None,
 }
 
 #[derive(Clone, Copy, Debug, PartialEq, Eq)]
@@ -199,6 +254,7 @@ pub struct Sweeping {
     pub first_number: u16,
     pub number_lines: NumberLines,
     pub length_counts_number_lines: bool,
+    pub orders_stay: OrdersStay,
 }
 
 /// Which nodes go.
@@ -236,6 +292,7 @@ pub struct Judging {
     pub count_before_lines: bool,
     pub count_place: CountPlace,
     pub numbers_are_compared: bool,
+    pub orders_differ_from_texts: bool,
     pub deleted_bytes_are_compared: bool,
     pub padding_is_compared: bool,
     pub program_marks_are_read_as_written: bool,
@@ -303,6 +360,31 @@ impl Lines {
             last_line_may_lack_its_end: false,
             number_low_byte_first: false,
             element_may_be_changed: false,
+            orders: Orders::document(),
+        }
+    }
+
+    /// The same for a file with these orders.
+    pub fn with_orders(&self, orders: OrdersInFile) -> Lines {
+        let mut lines = self.clone();
+        match orders {
+            OrdersInFile::OfTheWords => {}
+            OrdersInFile::OfAnyBytes => lines.orders.spelling = Spelling::Any,
+            OrdersInFile::None => lines.orders.words.clear(),
+        }
+        lines
+    }
+}
+
+impl Orders {
+    fn document() -> Orders {
+        Orders {
+            words: vec![b"hi-lo", b"lo-hi"],
+            spelling: Spelling::ByteForByte,
+            asked_under: vec![Mark::Untouched, Mark::Changed, Mark::Deleted],
+            may_be_changed: true,
+            in_masters: OrdersInFile::OfTheWords,
+            in_views: OrdersInFile::OfTheWords,
         }
     }
 }
@@ -320,6 +402,7 @@ impl Bounds {
             entries_may_be_left_over: false,
             missing_entry_is_behind_the_last: true,
             tests_see_the_slots: true,
+            order_may_have_contents: false,
         }
     }
 }
@@ -337,6 +420,13 @@ impl Showing {
             tests_stop_for_their_source: true,
             marks_are_kept: true,
             padding_is_kept: true,
+            made_words_are_orders: false,
+            order_is_a_source_of_11: true,
+            order_is_a_result_for_11: true,
+            order_is_an_element_for_13: false,
+            order_stops_06: true,
+            order_stops_07: true,
+            order_stops_12: true,
         }
     }
 }
@@ -356,6 +446,7 @@ impl PuttingBack {
             deletion_spreads: false,
             deleted_keep_their_contents: true,
             new_texts_keep_their_padding: true,
+            orders_stay: OrdersStay::All,
         }
     }
 }
@@ -380,6 +471,7 @@ impl Sweeping {
             first_number: 0,
             number_lines: NumberLines::Document,
             length_counts_number_lines: false,
+            orders_stay: OrdersStay::All,
         }
     }
 }
@@ -404,6 +496,7 @@ impl Judging {
             count_before_lines: false,
             count_place: CountPlace::Shorter,
             numbers_are_compared: true,
+            orders_differ_from_texts: true,
             deleted_bytes_are_compared: true,
             padding_is_compared: true,
             program_marks_are_read_as_written: true,

@@ -1,5 +1,6 @@
 //! Showing: a transformation run on a source, tests and transformations in turn.
 
+use crate::node_line;
 use crate::program::{Action, Question, Test, Transformation};
 use crate::rules::{Agreement, Rules};
 use crate::text;
@@ -42,10 +43,13 @@ impl<'a> Showing<'a> {
         match &x.action {
             Action::Source => Ok(source.to_vec()),
             Action::Nothing => Ok(Value::new()),
-            Action::Text(text) => Ok(vec![made_text(text)]),
+            Action::Text(text) => Ok(vec![self.made_text(text)]),
             Action::Tag(tag) => Ok(vec![made_element(tag)]),
             Action::Slot(name) => Ok(self.slots[self.slot(*name)].value.clone()),
-            Action::Contents => Ok(self.element(source, x.place)?.contents().to_vec()),
+            Action::Contents => {
+                let element = element(source, x.place, self.rules.showing.order_stops_06)?;
+                Ok(element.contents().to_vec())
+            }
             Action::Within(part) => self.within(part, source, x.place),
             Action::AndThen(first, second) => {
                 let middle = self.show(first, source)?;
@@ -71,11 +75,10 @@ impl<'a> Showing<'a> {
         found.expect("a sound program's 05 stands inside a 0C of its slot")
     }
 
-    fn element<'t>(&self, source: &'t [Tree], place: usize) -> Result<&'t Tree, Stop> {
-        match source {
-            [element @ Tree::Element { .. }] => Ok(element),
-            _ => Err(Stop { cause: Cause::Source, place }),
-        }
+    fn made_text(&self, text: &[u8]) -> Tree {
+        let is_order = self.rules.showing.made_words_are_orders
+            && node_line::is_order(text, &self.rules.lines.orders);
+        Tree::Text { node: Node::from_program(), is_order, text: text.to_vec() }
     }
 
     fn within(
@@ -84,7 +87,7 @@ impl<'a> Showing<'a> {
         source: &[Tree],
         place: usize,
     ) -> Result<Value, Stop> {
-        let mut element = self.element(source, place)?.clone();
+        let mut element = element(source, place, self.rules.showing.order_stops_07)?.clone();
         if let Tree::Element { contents, .. } = &mut element {
             *contents = self.show(part, contents)?;
         }
@@ -196,7 +199,15 @@ impl<'a> Showing<'a> {
         match (&test.question, source) {
             (Question::Equals(part), _) => self.equals(agreement, part, source, stop),
             (Question::Tagged(asked), [Tree::Element { tag, .. }]) => Ok(text::equal(tag, asked)),
+            (Question::IsElement, [Tree::Text { is_order: true, .. }]) => {
+                Ok(self.rules.showing.order_is_an_element_for_13)
+            }
             (Question::IsElement, [tree]) => Ok(matches!(tree, Tree::Element { .. })),
+            (Question::Tagged(_), [Tree::Text { is_order: true, .. }])
+                if !self.rules.showing.order_stops_12 =>
+            {
+                Ok(false)
+            }
             _ if !self.rules.showing.tests_stop_for_their_source => Ok(false),
             _ => Err(stop),
         }
@@ -209,12 +220,15 @@ impl<'a> Showing<'a> {
         source: &[Tree],
         stop: Stop,
     ) -> Result<bool, Stop> {
-        if self.rules.showing.equals_checks_its_source_first {
-            one_text(source).ok_or(stop)?;
+        let rules = &self.rules.showing;
+        let text_of_source = one_text(source, rules.order_is_a_source_of_11);
+        if rules.equals_checks_its_source_first {
+            text_of_source.ok_or(stop)?;
         }
         let result = self.show(part, self.source_under_equals(source))?;
-        let (source_node, source_text) = one_text(source).ok_or(stop)?;
-        let (result_node, result_text) = one_text(&result).ok_or(stop)?;
+        let (source_node, source_text) = text_of_source.ok_or(stop)?;
+        let (result_node, result_text) =
+            one_text(&result, rules.order_is_a_result_for_11).ok_or(stop)?;
         self.compared.extend(source_node.origin);
         self.compared.extend(result_node.origin);
         Ok(text::agree(source_text, result_text, agreement))
@@ -237,15 +251,21 @@ impl<'a> Showing<'a> {
     }
 }
 
-fn one_text(value: &[Tree]) -> Option<(&Node, &[u8])> {
+/// The one text of a value; an order is one, unless mistaken.
+fn one_text(value: &[Tree], order_is_one: bool) -> Option<(&Node, &[u8])> {
     match value {
-        [Tree::Text { node, text }] => Some((node, text)),
+        [Tree::Text { node, is_order, text }] if !is_order || order_is_one => Some((node, text)),
         _ => None,
     }
 }
 
-fn made_text(text: &[u8]) -> Tree {
-    Tree::Text { node: Node::from_program(), text: text.to_vec() }
+/// The one element of the source; an order in its place stops the run, unless mistaken.
+fn element(source: &[Tree], place: usize, order_stops: bool) -> Result<&Tree, Stop> {
+    match source {
+        [element @ Tree::Element { .. }] => Ok(element),
+        [order @ Tree::Text { is_order: true, .. }] if !order_stops => Ok(order),
+        _ => Err(Stop { cause: Cause::Source, place }),
+    }
 }
 
 fn made_element(tag: &[u8]) -> Tree {

@@ -11,7 +11,6 @@ use crate::stream::{Call, Case};
 use crate::verdict::Verdict;
 
 const GONE: u16 = 0xFFFF;
-const DEEPEST: u8 = 7;
 
 /// Checks a sweep; and of a put back that is accepted, the sweep of the master that it returns.
 pub fn check(case: &Case, rules: &Rules) -> Verdict {
@@ -41,7 +40,7 @@ fn requested_lines(case: &Case) -> Result<Vec<NodeLine>, Reply> {
         return Err(Reply::refusal(1, 0));
     }
     let old = read_nodes(&case.master).map_err(|place| Reply::refusal(4, place))?;
-    match master::first_fault(&old, DEEPEST, true) {
+    match master::first_fault(&old, &Rules::document().bounds, true) {
         Some(place) => Err(Reply::refusal(5, place)),
         None => Ok(old),
     }
@@ -123,7 +122,7 @@ impl Swept {
         let file = node_line::write_file(&self.new);
         let whole = entry::write_file(&[Entry::Source]);
         let back = Case::with_least_rooms(Call::PutBack, file.clone(), whole, file.clone());
-        master::first_fault(&self.new, DEEPEST, false).is_none()
+        master::first_fault(&self.new, &Rules::document().bounds, false).is_none()
             && calls::answer(&back, rules) == Reply::done(file)
     }
 
@@ -142,7 +141,7 @@ impl Swept {
     /// Other texts, tags and kinds: the same nodes go.
     fn goes_by_marks_and_depths(&self, case: &Case, rules: &Rules) -> bool {
         let numbers = write_numbers(self.numbers.iter().copied());
-        [without_words, with_texts_as_elements].iter().all(|other| {
+        [without_words, with_texts_as_elements, with_texts_as_orders].iter().all(|other| {
             let master = node_line::write_file(&other(&self.old));
             calls::answer(&Case { master, ..case.clone() }, rules).numbers == numbers
         })
@@ -155,17 +154,27 @@ fn without_words(lines: &[NodeLine]) -> Vec<NodeLine> {
         line.bytes = match line.kind {
             Kind::Text => Vec::new(),
             Kind::Element => b"w".to_vec(),
+            Kind::Order => b"lo-hi".to_vec(),
         };
     }
     other
 }
 
-/// A changed text stays one, as no element may be changed.
+/// A changed text or order stays as it is, as no element may be changed.
 fn with_texts_as_elements(lines: &[NodeLine]) -> Vec<NodeLine> {
     let mut other = lines.to_vec();
     for line in other.iter_mut().filter(|line| line.mark != Mark::Changed) {
         line.kind = Kind::Element;
         line.bytes = b"w".to_vec();
+    }
+    other
+}
+
+fn with_texts_as_orders(lines: &[NodeLine]) -> Vec<NodeLine> {
+    let mut other = lines.to_vec();
+    for line in other.iter_mut().filter(|line| line.kind == Kind::Text) {
+        line.kind = Kind::Order;
+        line.bytes = b"hi-lo".to_vec();
     }
     other
 }

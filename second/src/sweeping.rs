@@ -25,6 +25,7 @@ pub fn sweep(master: &[NodeLine], rules: &Sweeping) -> Swept {
         if rules.lines_are_renumbered {
             line.number = new_number;
         }
+        line.kind = line.kind_handed_on(rules.orders_stay);
         if rules.marks_are_lost {
             line.mark = Mark::Untouched;
         }

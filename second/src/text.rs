@@ -2,8 +2,8 @@
 
 use crate::rules::Agreement;
 
-/// Text equality: tags, the view comparison, whether a line marked 01 has its old text, and the
-/// merging of two changed texts.
+/// Text equality: tags, the words of an order, the view comparison, whether a line marked 01 has
+/// its old text, and the merging of two changed texts.
 pub fn equal(one: &[u8], other: &[u8]) -> bool {
     one == other
 }
@@ -69,7 +69,7 @@ fn unpadded_but_spaces_alone<'a>(text: &'a [u8], kept: &'a [u8]) -> &'a [u8] {
     }
 }
 
-fn behind_spaces(text: &[u8]) -> &[u8] {
+pub fn behind_spaces(text: &[u8]) -> &[u8] {
     let first_other = text.iter().position(|&byte| byte != b' ');
     &text[first_other.unwrap_or(text.len())..]
 }

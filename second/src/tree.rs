@@ -6,7 +6,7 @@ use crate::standing::{self, Standing};
 
 #[derive(Clone, Debug)]
 pub enum Tree {
-    Text { node: Node, text: Vec<u8> },
+    Text { node: Node, is_order: bool, text: Vec<u8> },
     Element { node: Node, tag: Vec<u8>, contents: Value },
 }
 
@@ -80,7 +80,8 @@ fn grow(rest: &mut &[NodeLine], depth: u8) -> Value {
         let node = Node { origin, mark: line.mark, standing: Standing::Untouched };
         let bytes = line.bytes.clone();
         value.push(match line.kind {
-            Kind::Text => Tree::Text { node, text: bytes },
+            Kind::Text => Tree::Text { node, is_order: false, text: bytes },
+            Kind::Order => Tree::Text { node, is_order: true, text: bytes },
             Kind::Element => Tree::Element { node, tag: bytes, contents: grow(rest, depth + 1) },
         });
     }
@@ -96,7 +97,8 @@ pub fn to_lines(value: &[Tree]) -> Vec<NodeLine> {
 fn lay_out(value: &[Tree], depth: u8, lines: &mut Vec<NodeLine>) {
     for tree in value {
         let kind = match tree {
-            Tree::Text { .. } => Kind::Text,
+            Tree::Text { is_order: false, .. } => Kind::Text,
+            Tree::Text { is_order: true, .. } => Kind::Order,
             Tree::Element { .. } => Kind::Element,
         };
         let node = tree.node();

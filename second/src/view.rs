@@ -1,6 +1,6 @@
 //! The view beside the fresh one: replies 9 and 10, and the standings its lines bring.
 
-use crate::node_line::{FROM_PROGRAM, Mark, NodeLine};
+use crate::node_line::{FROM_PROGRAM, Kind, Mark, NodeLine};
 use crate::rules::{CountPlace, EditsGoBy, Judging, Rules, Saving};
 use crate::saved;
 use crate::standing::Standing;
@@ -39,9 +39,16 @@ fn differs(fresh: &NodeLine, line: &NodeLine, rules: &Judging) -> bool {
         false => text::equal_but_for_padding(&fresh.bytes, &line.bytes),
     };
     fresh.depth != line.depth
-        || fresh.kind != line.kind
+        || !same_kind(fresh.kind, line.kind, rules)
         || (rules.numbers_are_compared && fresh.number != line.number)
         || (!bytes_may_differ && !same_bytes)
+}
+
+fn same_kind(fresh: Kind, kind: Kind, rules: &Judging) -> bool {
+    match (fresh, kind) {
+        (Kind::Text, Kind::Order) | (Kind::Order, Kind::Text) => !rules.orders_differ_from_texts,
+        _ => fresh == kind,
+    }
 }
 
 /// The place of reply 10: the first line from the program that has a mark, as it is written.

@@ -1,14 +1,14 @@
 //! The committed cases: which they are; how often each reply occurs among the seeded ones, what
 //! their programs are made of, what their sweeps remove, beside what their saved lines stand, what
-//! their padded views are edited in, and how often padding decides.
+//! their padded views are edited in, how often padding decides, and what becomes of their orders.
 
 mod common;
 
 use second::calls::{self, Desk};
-use second::cases::{bench, padded_edges, saved_edges, sweep_edges};
+use second::cases::{bench, order_edges, padded_edges, saved_edges, sweep_edges};
 use second::committed;
 use second::entry::{self, Entry};
-use second::node_line::{self, FROM_PROGRAM, Mark, NodeLine};
+use second::node_line::{self, FROM_PROGRAM, Kind, Mark, NodeLine};
 use second::rules::{Agreement, Rules};
 use second::stream::{Call, Case};
 use second::text;
@@ -79,13 +79,14 @@ fn the_stream_begins_with_the_bench_examples() {
 #[test]
 fn each_request_has_its_cases_behind_those_before_it() {
     let cases = committed::cases();
-    let [sweep_edges, saved_edges, padded_edges] =
-        [sweep_edges::edges(), saved_edges::edges(), padded_edges::edges()]
+    let [sweep_edges, saved_edges, padded_edges, order_edges] =
+        [sweep_edges::edges(), saved_edges::edges(), padded_edges::edges(), order_edges::edges()]
             .map(|edges| edges.into_iter().map(|edge| edge.case).collect::<Vec<Case>>());
     let (first, behind) = cases.split_at(bench::examples().len() + committed::COUNT);
     let (sweeps, behind) = behind.split_at(sweep_edges.len() + committed::SWEEPS);
-    let (saves, pads) = behind.split_at(saved_edges.len() + committed::SAVES);
-    assert_eq!(pads.len(), padded_edges.len() + committed::PADS);
+    let (saves, behind) = behind.split_at(saved_edges.len() + committed::SAVES);
+    let (pads, orders) = behind.split_at(padded_edges.len() + committed::PADS);
+    assert_eq!(orders.len(), order_edges.len() + committed::ORDERS);
     assert!(first.iter().all(|case| case.call != Call::Sweep));
     assert!(sweeps.iter().all(|case| case.call == Call::Sweep));
     assert!(saves.iter().all(|case| case.call == Call::PutBack));
@@ -93,6 +94,7 @@ fn each_request_has_its_cases_behind_those_before_it() {
     assert!(sweeps.starts_with(&sweep_edges));
     assert!(saves.starts_with(&saved_edges));
     assert!(pads.starts_with(&padded_edges));
+    assert!(orders.starts_with(&order_edges));
 }
 
 /// That the cases get these replies, each in so many of a hundred, and that most of them get 0.
@@ -222,6 +224,87 @@ fn padding_often_decides_and_both_answers_of_test_11_count() {
             common::answered_otherwise(&cases, |rules| rules.showing.equals_by = agreement);
         assert!(otherwise * 100 >= cases.len() * least, "{agreement:?}: {otherwise} of them");
     }
+}
+
+#[test]
+fn each_reply_to_a_case_of_orders_occurs_often() {
+    often_replied(&committed::seeded_orders(), &[0, 4, 5, 6, 8, 9, 11], 5);
+}
+
+#[test]
+fn each_call_on_orders_occurs_often() {
+    let cases = committed::seeded_orders();
+    for (call, least) in [(Call::Show, 15), (Call::PutBack, 50), (Call::Sweep, 15)] {
+        let times = cases.iter().filter(|case| case.call == call).count();
+        assert!(times * 100 >= cases.len() * least, "{call:?} occurs {times} times");
+    }
+}
+
+fn orders_of(lines: &[NodeLine]) -> impl Iterator<Item = &NodeLine> {
+    lines.iter().filter(|line| line.kind == Kind::Order)
+}
+
+#[test]
+fn orders_stand_beside_texts_with_their_bytes() {
+    let lines = Rules::document().lines;
+    let cases = committed::seeded_orders();
+    let beside = |case: &&Case| {
+        let master = node_line::read_file(&case.master, &lines).unwrap_or_default();
+        orders_of(&master).any(|order| {
+            let is_twin = |line: &NodeLine| line.kind == Kind::Text && line.bytes == order.bytes;
+            master.iter().any(is_twin)
+        })
+    };
+    let times = cases.iter().filter(beside).count();
+    assert!(times * 100 >= cases.len() * 40, "{times} of {}", cases.len());
+}
+
+#[test]
+fn orders_are_edited_saved_and_compared() {
+    let rules = Rules::document();
+    let (mut changed, mut deleted, mut saved_ones, mut compared) = (0, 0, 0, 0);
+    for case in committed::seeded_orders() {
+        let mut desk = Desk::new(&case, &rules);
+        let accepted = case.call == Call::PutBack
+            && rules.judging.order.iter().all(|&stage| desk.judge(stage).is_ok());
+        if accepted {
+            let marked =
+                |mark| usize::from(orders_of(&desk.returned).any(|line| line.mark == mark));
+            changed += marked(Mark::Changed);
+            deleted += marked(Mark::Deleted);
+            saved_ones += usize::from(saved(&desk).any(|line| line.kind == Kind::Order));
+            let is_compared = |line: &NodeLine| desk.compared.contains(&line.number);
+            compared += usize::from(orders_of(&desk.master).any(is_compared));
+        }
+    }
+    assert!(changed > 30, "in {changed} an order is changed");
+    assert!(deleted > 10, "in {deleted} an order is deleted");
+    assert!(saved_ones > 40, "in {saved_ones} an order is saved");
+    assert!(compared > 50, "in {compared} an order is compared");
+}
+
+#[test]
+fn swept_orders_go_and_stay() {
+    let rules = Rules::document();
+    let (mut gone, mut stayed, mut changed) = (0, 0, 0);
+    for case in committed::seeded_orders().iter().filter(|case| case.call == Call::Sweep) {
+        let reply = calls::answer(case, &rules);
+        if reply.number == 0 {
+            let [old, new] = [&case.master, &reply.output]
+                .map(|file| node_line::read_file(file, &rules.lines).expect("a sound file"));
+            gone += usize::from(orders_of(&new).count() < orders_of(&old).count());
+            stayed += usize::from(orders_of(&new).next().is_some());
+            // A line of the second output has five bytes.
+            let stays = |line: &NodeLine| {
+                !reply.numbers[5 * usize::from(line.number)..].starts_with(b"FFFF")
+            };
+            let is_changed = |line: &NodeLine| line.mark == Mark::Changed && stays(line);
+            changed += usize::from(orders_of(&old).any(is_changed));
+        }
+    }
+    assert!(gone > 20, "in {gone} an order goes");
+    assert!(stayed > 40, "in {stayed} an order stays");
+    assert!(changed > 15, "in {changed} an order is changed and stays");
 }
 
 #[test]

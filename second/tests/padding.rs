@@ -12,19 +12,12 @@ use second::stream::{Call, Case};
 
 #[test]
 fn each_edge_gets_the_requested_reply() {
-    for edge in padded_edges::edges() {
-        let reply = calls::answer(&edge.case, &Rules::document());
-        assert_eq!(reply, edge.reply, "{}: {:?}", edge.what, edge.case);
-    }
+    common::answered_as_requested(padded_edges::edges());
 }
 
 #[test]
 fn no_edge_is_there_twice() {
-    let edges = padded_edges::edges();
-    for (place, edge) in edges.iter().enumerate() {
-        let twin = edges[..place].iter().find(|earlier| earlier.case == edge.case);
-        assert!(twin.is_none(), "{}: {:?}", edge.what, edge.case);
-    }
+    common::there_once(&padded_edges::edges());
 }
 
 #[test]

@@ -11,10 +11,7 @@ use second::stream::{Call, Case};
 
 #[test]
 fn each_edge_gets_the_requested_reply() {
-    for edge in saved_edges::edges() {
-        let reply = calls::answer(&edge.case, &Rules::document());
-        assert_eq!(reply, edge.reply, "{}: {:?}", edge.what, edge.case);
-    }
+    common::answered_as_requested(saved_edges::edges());
 }
 
 #[test]

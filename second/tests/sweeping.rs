@@ -3,7 +3,7 @@
 
 mod common;
 
-use common::{M, P, PP, done, file, put_back, refused, show, sweep, swept};
+use common::{M, P, PP, done, file, put_back, refused, show, sweep, swept, swept_as_requested};
 use second::calls;
 use second::cases::{self, sweep_edges, sweeps};
 use second::committed;
@@ -16,10 +16,7 @@ const EMPTY: [&str; 0] = [];
 
 #[test]
 fn each_edge_gets_the_requested_reply() {
-    for edge in sweep_edges::edges() {
-        let reply = calls::answer(&edge.case, &Rules::document());
-        assert_eq!(reply, edge.reply, "{}", edge.what);
-    }
+    common::answered_as_requested(sweep_edges::edges());
 }
 
 #[test]
@@ -85,26 +82,14 @@ fn nothing_but_the_master_and_the_rooms_counts() {
     assert_eq!(calls::answer(&with_more_room, &rules), calls::answer(&case, &rules));
 }
 
-fn checked(cases: &[Case]) -> usize {
-    let rules = Rules::document();
-    let verdicts = cases.iter().map(|case| sweep_sentences::check(case, &rules));
-    verdicts
-        .enumerate()
-        .filter(|(index, verdict)| {
-            assert_ne!(*verdict, Verdict::Violated, "case {index} violates request #103");
-            *verdict == Verdict::Holds
-        })
-        .count()
-}
-
 #[test]
 fn the_sentences_hold_on_generated_sweeps() {
-    assert_eq!(checked(&sweeps::cases(5, 5_000)), 5_000);
+    assert_eq!(swept_as_requested(&sweeps::cases(5, 5_000)), 5_000);
 }
 
 #[test]
 fn the_sentences_hold_on_what_put_backs_return() {
-    let checked = checked(&cases::cases(6, 10_000));
+    let checked = swept_as_requested(&cases::cases(6, 10_000));
     assert!(checked > 2_000, "only {checked} returned masters were swept");
 }
 
@@ -117,7 +102,7 @@ fn the_sentences_hold_on_all_marks_of_small_masters() {
         }
     }
     assert!(cases.len() > 20_000, "only {} masters", cases.len());
-    assert_eq!(checked(&cases), cases.len());
+    assert_eq!(swept_as_requested(&cases), cases.len());
 }
 
 /// The depths of every master of so many nodes.

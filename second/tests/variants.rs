@@ -1,18 +1,21 @@
-//! Deliberately wrong readings of document 01 and of requests #101, #103 and #104, each of which
-//! the committed cases tell apart: those of saved lines and of padded texts by an edge of theirs
-//! and again by a seeded case with many of them; those of sweeping, and what it takes over, by
-//! sweeps alone.
+//! Deliberately wrong readings of document 01 and of requests #101, #103, #104 and #106, each of
+//! which the committed cases tell apart: those of saved lines, of padded texts and of word orders
+//! by an edge of theirs and again by a seeded case with many of them; those of sweeping, and what
+//! it takes over, by sweeps alone.
 
 mod common;
 
-use second::cases::{padded_edges, saved_edges};
+use second::cases::{order_edges, padded_edges, saved_edges};
 use second::committed;
 use second::demand3;
+use second::node_line::Mark;
 use second::rules::{
     Agreement, ClashPlace, Comparison, CountPlace, EditsGoBy, Goes, Locking, MarkedMaster, Merging,
-    NumberLines, OldText, Rules, SavedEffect, SavedMarks, Stage,
+    NumberLines, OldText, OrdersInFile, OrdersStay, Rules, SavedEffect, SavedMarks, Spelling,
+    Stage,
 };
 use second::stream::{Call, Case};
+use second::sweep_sentences;
 use second::verdict::Verdict;
 
 type Variant = (&'static str, fn(&mut Rules));
@@ -232,6 +235,105 @@ const WRONG_USES_OF_PADDING: [Variant; 8] = [
     }),
 ];
 
+const WRONG_ORDERS: [Variant; 14] = [
+    ("any bytes are an order", |rules| rules.lines.orders.spelling = Spelling::Any),
+    ("letters of an order may be in either case", |rules| {
+        rules.lines.orders.spelling = Spelling::InEitherCase;
+    }),
+    ("spaces behind an order are overlooked", |rules| {
+        rules.lines.orders.spelling = Spelling::ButForPadding;
+    }),
+    ("spaces in front of an order are overlooked", |rules| {
+        rules.lines.orders.spelling = Spelling::ButForSpacesInFront;
+    }),
+    ("bytes behind an order are overlooked", |rules| {
+        rules.lines.orders.spelling = Spelling::BeginsWithTheWord;
+    }),
+    ("what an order begins with is an order", |rules| {
+        rules.lines.orders.spelling = Spelling::BeginsTheWord;
+    }),
+    ("the first byte of an order is not looked at", |rules| {
+        rules.lines.orders.spelling = Spelling::BehindTheFirstByte;
+    }),
+    ("the last byte of an order is not looked at", |rules| {
+        rules.lines.orders.spelling = Spelling::BeforeTheLastByte;
+    }),
+    ("five bytes are an order", |rules| rules.lines.orders.spelling = Spelling::AsLong),
+    ("hilo is an order", |rules| rules.lines.orders.words.push(b"hilo")),
+    ("lohi is an order", |rules| rules.lines.orders.words.push(b"lohi")),
+    ("no byte is an order", |rules| rules.lines.orders.words.push(b"")),
+    ("hi-lo alone is an order", |rules| rules.lines.orders.words.truncate(1)),
+    ("lo-hi alone is an order", |rules| rules.lines.orders.words = vec![b"lo-hi"]),
+];
+
+const WRONG_USES_OF_ORDERS: [Variant; 23] = [
+    ("an order may not be changed", |rules| rules.lines.orders.may_be_changed = false),
+    ("the words are asked under mark 01 only", |rules| {
+        rules.lines.orders.asked_under = vec![Mark::Changed];
+    }),
+    ("the words are not asked where untouched", |rules| {
+        rules.lines.orders.asked_under = vec![Mark::Changed, Mark::Deleted];
+    }),
+    ("the words are not asked where deleted", |rules| {
+        rules.lines.orders.asked_under = vec![Mark::Untouched, Mark::Changed];
+    }),
+    ("the words are not asked where changed", |rules| {
+        rules.lines.orders.asked_under = vec![Mark::Untouched, Mark::Deleted];
+    }),
+    ("other bytes are 5 in a master", |rules| {
+        rules.lines.orders.in_masters = OrdersInFile::OfAnyBytes;
+    }),
+    ("other bytes are 9 in a view", |rules| {
+        rules.lines.orders.in_views = OrdersInFile::OfAnyBytes;
+    }),
+    ("an order may stand in a view only", |rules| {
+        rules.lines.orders.in_masters = OrdersInFile::None;
+    }),
+    ("an order may stand in a master only", |rules| {
+        rules.lines.orders.in_views = OrdersInFile::None;
+    }),
+    ("an order may have contents", |rules| rules.bounds.order_may_have_contents = true),
+    ("03 makes an order of the words", |rules| rules.showing.made_words_are_orders = true),
+    ("11 stops if its source is an order", |rules| {
+        rules.showing.order_is_a_source_of_11 = false;
+    }),
+    ("11 stops if the text of X is an order", |rules| {
+        rules.showing.order_is_a_result_for_11 = false;
+    }),
+    ("13 says yes to an order", |rules| rules.showing.order_is_an_element_for_13 = true),
+    ("06 shows nothing of an order", |rules| rules.showing.order_stops_06 = false),
+    ("07 shows an order as it is", |rules| rules.showing.order_stops_07 = false),
+    ("12 says no to an order", |rules| rules.showing.order_stops_12 = false),
+    ("11 compares byte for byte", |rules| rules.showing.equals_by = Agreement::ByteForByte),
+    ("11 locks its source only", |rules| rules.putting_back.locking = Locking::SourceOnly),
+    ("11 locks its result only", |rules| rules.putting_back.locking = Locking::ResultOnly),
+    ("a saved line is a change", |rules| rules.saving.marks = SavedMarks::None),
+    ("9 takes an order and a text as one kind", |rules| {
+        rules.judging.orders_differ_from_texts = false;
+    }),
+    ("9 does not look at the bytes of a deleted line", |rules| {
+        rules.judging.deleted_bytes_are_compared = false;
+    }),
+];
+
+const ORDERS_LOST_BY_PUT_BACKS: [Variant; 2] = [
+    ("putting back makes a text of an order", |rules| {
+        rules.putting_back.orders_stay = OrdersStay::None;
+    }),
+    ("putting back makes a text of a changed order", |rules| {
+        rules.putting_back.orders_stay = OrdersStay::Unchanged;
+    }),
+];
+
+const ORDERS_LOST_BY_SWEEPS: [Variant; 2] = [
+    ("a sweep makes a text of an order", |rules| {
+        rules.sweeping.orders_stay = OrdersStay::None;
+    }),
+    ("a sweep makes a text of a changed order", |rules| {
+        rules.sweeping.orders_stay = OrdersStay::Unchanged;
+    }),
+];
+
 const WRONG_JUDGING: [Variant; 16] = [
     ("4 is judged before 2", |rules| before(rules, Stage::MasterForm, Stage::ProgramForm)),
     ("4 is judged before 3", |rules| before(rules, Stage::MasterForm, Stage::ProgramTree)),
@@ -413,21 +515,22 @@ fn wrong_readings_of_saved_lines_are_told_apart_by_seeded_views() {
     told_apart_by(committed::seeded_saves().into_iter(), &WRONG_SAVES);
 }
 
-/// That demand 3 does not hold on the cases by any of the variants.
-fn seen_by_brute_force(cases: &[Case], variants: &[Variant]) {
-    let violated =
-        |rules: &Rules| cases.iter().any(|case| demand3::check(case, rules) == Verdict::Violated);
+type Check = fn(&Case, &Rules) -> Verdict;
+
+/// That what a check demands does not hold on the cases by any of the variants.
+fn seen_by(check: Check, cases: &[Case], variants: &[Variant]) {
+    let violated = |rules: &Rules| cases.iter().any(|case| check(case, rules) == Verdict::Violated);
     for (name, change) in variants {
         let mut rules = Rules::document();
         change(&mut rules);
-        assert!(violated(&rules), "demand 3 holds though {name}");
+        assert!(violated(&rules), "what is demanded holds though {name}");
     }
     assert!(!violated(&Rules::document()));
 }
 
 #[test]
 fn wrong_readings_of_saved_lines_are_seen_by_brute_force() {
-    seen_by_brute_force(&committed::saves(), &WRONG_SAVES);
+    seen_by(demand3::check, &committed::saves(), &WRONG_SAVES);
 }
 
 #[test]
@@ -445,7 +548,30 @@ fn wrong_readings_of_padded_texts_are_told_apart_by_seeded_cases() {
 
 #[test]
 fn wrong_uses_of_padding_are_seen_by_brute_force() {
-    seen_by_brute_force(&committed::pads(), &WRONG_USES_OF_PADDING);
+    seen_by(demand3::check, &committed::pads(), &WRONG_USES_OF_PADDING);
+}
+
+#[test]
+fn wrong_readings_of_orders_are_told_apart_by_the_edges() {
+    wrong_orders_are_told_apart_by(order_edges::edges().into_iter().map(|edge| edge.case));
+}
+
+#[test]
+fn wrong_readings_of_orders_are_told_apart_by_seeded_cases() {
+    wrong_orders_are_told_apart_by(committed::seeded_orders().into_iter());
+}
+
+fn wrong_orders_are_told_apart_by(cases: impl Iterator<Item = Case> + Clone) {
+    told_apart_by(cases.clone(), &WRONG_ORDERS);
+    told_apart_by(cases.clone(), &WRONG_USES_OF_ORDERS);
+    told_apart_by(cases.clone(), &ORDERS_LOST_BY_PUT_BACKS);
+    told_apart_by(cases, &ORDERS_LOST_BY_SWEEPS);
+}
+
+#[test]
+fn orders_that_are_lost_are_seen_by_brute_force() {
+    seen_by(demand3::check, &committed::orders(), &ORDERS_LOST_BY_PUT_BACKS);
+    seen_by(sweep_sentences::check, &committed::orders(), &ORDERS_LOST_BY_SWEEPS);
 }
 
 #[test]

@@ -12,7 +12,7 @@ def differences(first, second):
     first_copies, second_copies = copies_of(first), copies_of(second)
     for copy in sorted({*first_copies, *second_copies}):
         said += compare(copy, first_copies.get(copy), second_copies.get(copy))
-    return said + order(first_copies, second_copies)
+    return said + line_order(first_copies, second_copies)
 
 
 def copies_of(view):
@@ -43,22 +43,22 @@ def compare(copy, before, after):
 
 
 def is_saved(before, after):
-    """Whether all that happened to a text of the master is the mark, so that it still counts as untouched. With that
-    mark an element or a line from the program is refused, as is every line in another place."""
+    """Whether all that happened to a text or an order of the master is the mark, so that it still counts as untouched.
+    With that mark an element or a line from the program is refused, as is every line in another place."""
     place, node = before
     marked = node._replace(mark=MARKS[1])
-    return node.kind == KINDS[1] and node.number != FROM_PROGRAM and node.mark == MARKS[0] and after == (place, marked)
+    return node.kind != KINDS[2] and node.number != FROM_PROGRAM and node.mark == MARKS[0] and after == (place, marked)
 
 
 def written(value):
     return quote(value) if isinstance(value, bytes) else str(value)
 
 
-def order(first_copies, second_copies):
+def line_order(first_copies, second_copies):
     """Whether the lines that both have stand in the same order."""
     first = [copy for copy in first_copies if copy in second_copies]
     second = [copy for copy in second_copies if copy in first_copies]
     for old, new in zip(first, second):
         if old != new:
-            return [f"the order differs from line {first_copies[old][0]} of the first on"]
+            return [f"the lines stand in another order from line {first_copies[old][0]} of the first on"]
     return []

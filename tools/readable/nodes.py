@@ -5,7 +5,7 @@ from collections import namedtuple
 from .faults import Unreadable
 from .words import Cursor, in_one_byte, in_two_bytes, quote
 
-KINDS = {1: "text", 2: "element"}
+KINDS = {1: "text", 2: "element", 3: "order"}
 MARKS = {0: "untouched", 1: "changed", 2: "deleted"}
 FROM_PROGRAM = 0xFFFF
 FROM_PROGRAM_WORD = "program"
@@ -18,13 +18,18 @@ def from_bytes(line):
     if len(line) < 6:
         raise Unreadable(f"a node line has at least 6 bytes, this one has {len(line)}")
     depth, kind, mark, number_high, number_low, length = line[:6]
-    if kind not in KINDS:
-        raise Unreadable(f"kind {kind:02X} is neither 01 (text) nor 02 (element)")
-    if mark not in MARKS:
-        raise Unreadable(f"mark {mark:02X} is none of 00 (untouched), 01 (changed), 02 (deleted)")
+    kind, mark = name_of(KINDS, "kind", kind), name_of(MARKS, "mark", mark)
     if length != len(line) - 6:
         raise Unreadable(f"the length says {length} bytes, and {len(line) - 6} follow")
-    return Node(depth, KINDS[kind], MARKS[mark], number_high * 256 + number_low, line[6:])
+    return Node(depth, kind, mark, number_high * 256 + number_low, line[6:])
+
+
+def name_of(names, what, byte):
+    """The name of a byte; `what` says what it should be, for the complaint."""
+    if byte not in names:
+        all_names = ", ".join(f"{known:02X} ({name})" for known, name in names.items())
+        raise Unreadable(f"{what} {byte:02X} is none of {all_names}")
+    return names[byte]
 
 
 def to_bytes(node):
@@ -52,7 +57,7 @@ def number_word(number):
 def from_readable(line):
     depth = depth_of(line)
     cursor = Cursor(line)
-    kind = one_of(KINDS, cursor.word("the kind, text or element,"))
+    kind = one_of(KINDS, cursor.word(f"the kind ({listed(KINDS)})"))
     number = number_of(cursor.word("the node's number"))
     text = cursor.quoted()
     in_one_byte("a text's length", len(text))
@@ -72,8 +77,12 @@ def depth_of(line):
 
 def one_of(names, word):
     if word not in names.values():
-        raise Unreadable(f"{word!r} is none of {', '.join(names.values())}")
+        raise Unreadable(f"{word!r} is none of {listed(names)}")
     return word
+
+
+def listed(names):
+    return ", ".join(names.values())
 
 
 def number_of(word):

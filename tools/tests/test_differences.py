@@ -59,9 +59,27 @@ class Differences(unittest.TestCase):
             with self.subTest(first=first, second=second):
                 self.assertEqual(self.diff(first, second), said)
 
+    def test_orders(self):
+        order = b"00030000060568692D6C6F\n"
+        for second, said in (
+            (b"0003010006056C6F2D6869\n", 'node 6: line 0: mark untouched -> changed, text "hi-lo" -> "lo-hi"\n'),
+            (b"00030100060468696C6F\n", 'node 6: line 0: mark untouched -> changed, text "hi-lo" -> "hilo"\n'),
+            (b"00030100060568692D6C6F\n", "node 6: line 0: saved, its text is the same\n"),
+            (b"00030200060568692D6C6F\n", "node 6: line 0: mark untouched -> deleted\n"),
+            (b"00010000060568692D6C6F\n", "node 6: line 0: kind order -> text\n"),
+            (b"00010100060568692D6C6F\n", "node 6: line 0: kind order -> text, mark untouched -> changed\n"),
+        ):
+            with self.subTest(second=second):
+                self.assertEqual(self.diff(order, second), said)
+        text = b"00010000060568692D6C6F\n"
+        self.assertEqual(self.diff(text, order), "node 6: line 0: kind text -> order\n")
+        self.assertEqual(self.diff(text, b"00030100060568692D6C6F\n"),
+                         "node 6: line 0: kind text -> order, mark untouched -> changed\n")
+
     def test_a_line_that_moved_is_not_called_saved(self):
         moved = b"0001010004026C6F\n0001000002026869\n"
-        said = "node 4: line 1 -> 0: mark untouched -> changed\nthe order differs from line 0 of the first on\n"
+        said = ("node 4: line 1 -> 0: mark untouched -> changed\n"
+                "the lines stand in another order from line 0 of the first on\n")
         self.assertEqual(self.diff(b"0001000002026869\n0001000004026C6F\n", moved), said)
 
     def test_the_readable_form_beside_hex_lines(self):
@@ -71,7 +89,7 @@ class Differences(unittest.TestCase):
 
     def test_a_line_more_and_a_line_less(self):
         less = FRESH.replace(b"0001000002026869\n", b"", 1)
-        said = "node 2: line 2 is only in the first\nthe order differs from line 0 of the first on\n"
+        said = "node 2: line 2 is only in the first\nthe lines stand in another order from line 0 of the first on\n"
         self.assertEqual(self.diff(FRESH, less), said)
         more = FRESH + b"01020000050177\n"
         self.assertEqual(self.diff(FRESH, more), "node 5: line 5 is only in the second\n")

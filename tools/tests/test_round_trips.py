@@ -33,7 +33,8 @@ class RoundTrips(unittest.TestCase):
     def test_every_depth_kind_mark_and_number(self):
         lines = [node_line(depth=depth, text=b"x") for depth in range(256)]
         lines += [node_line(number=number) for number in (*range(300), *range(0xFE00, 0x10000))]
-        lines += [node_line(kind=kind, mark=mark, text=b"x") for kind in (1, 2) for mark in (0, 1, 2)]
+        kinds_and_texts = [(kind, b"x") for kind in (1, 2, 3)] + [(3, b"hi-lo"), (3, b"lo-hi")]
+        lines += [node_line(kind=kind, mark=mark, text=text) for kind, text in kinds_and_texts for mark in (0, 1, 2)]
         self.assert_same("master", hex_lines.write_file(lines))
 
     def test_every_slot_and_operation_in_any_order(self):
@@ -72,7 +73,7 @@ class RoundTrips(unittest.TestCase):
 
 
 def random_line(chance):
-    kind, mark, number = chance.randint(1, 2), chance.randrange(3), chance.randrange(0x10000)
+    kind, mark, number = chance.randint(1, 3), chance.randrange(3), chance.randrange(0x10000)
     return node_line(chance.randrange(10), kind, mark, number, random_text(chance))
 
 

@@ -1,5 +1,5 @@
--- The three demands, and request #101 on bytes, as predicates over any calls: any functions from the lent contents to an outcome.
--- Ours meet them (Theorems/Demand12, Theorems/Demand3, Theorems/SavedLines); the trials do not meet the demands (crate trials).
+-- The three demands, and requests #101 and #106 on bytes, as predicates over any calls: any functions from the lent contents to an outcome.
+-- Ours meet them (Theorems/Demand12, Theorems/Demand3, Theorems/SavedLines, Theorems/OrdersKept); the trials do not meet the demands (crate trials).
 use Prim.Native.Nat.{ℕ, _<_}
 use mathlib.Core.Path.{_≡_}
 use mathlib.Core.Bool.{true, false, cond}
@@ -10,7 +10,7 @@ use lib.ListN.{length, take, drop}
 use Rattle.lines.specs.declared.scan.File.the-variants.{View}
 use Rattle.lines.specs.declared.scan.Scan.the-variants.{Lines}
 use Rattle.lines.specs.Files.{scan}
-use Rattle.lines.specs.Nodes.{Line, nodes, untouchedMark, changedMark, deletedMark, programNumber, lineAt}
+use Rattle.lines.specs.Nodes.{Line, nodes, untouchedMark, changedMark, deletedMark, programNumber, hiLo, loHi, lineAt}
 use Rattle.lines.specs.Verdicts.{Reply}
 use Rattle.lines.specs.Views.{countedLines}
 use Rattle.lines.specs.Writing.{fileOf}
@@ -203,3 +203,17 @@ SavedSame put =
     (master program edited : List ℕ) (X : Transformation) → judgedProgram program ≡ gives X → (ls : List Line) → judgedMaster true master ≡ gives ls
     → (o : Shown) → showing (oneMaster ls) X ≡ gives o → let fresh = view (oneMaster ls) (o .value) in (es : List Line) → judgedView fresh edited ≡ gives es
     → (out work : List ℕ) → put master program edited out work ≡ put master program (fileOf (countedLines fresh es)) out work
+
+-- ## Request #106 on bytes: "exactly `hi-lo` or `lo-hi`", whatever was put back
+
+-- the master's lines, and the returned master's
+pub record OrdersKept (ls returned : List Line) : Type 0 where
+  pub count : length returned ≡ length ls
+  -- every node keeps its kind,
+  pub kind : (n : ℕ) → (lineAt returned n) .kind ≡ (lineAt ls n) .kind
+  -- and one of kind 03 has one of the two words
+  pub word : (n : ℕ) → (lineAt returned n) .kind ≡ 3 → ((lineAt returned n) .text ≡ hiLo) ⊎ ((lineAt returned n) .text ≡ loHi)
+
+abbrev pub KeepsOrders : PutLike → Type 0
+KeepsOrders put =
+    (master program edited out work : List ℕ) → let r = put master program edited out work in numberOf r ≡ 0 → OrdersKept (nodes master) (nodes (written r))

@@ -18,6 +18,7 @@ pub mod EditedLines
 pub mod SavedLines
 pub mod ClashSearch
 pub mod Demand3
+pub mod OrdersKept
 -- The call sweep: its contract decides, and it is what its request asks; no other is; after a put-back it is what the edits say
 pub mod Sweeping
 pub mod SweepDecided

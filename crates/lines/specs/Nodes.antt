@@ -1,11 +1,12 @@
 -- Node lines (master and view): depth, kind, mark, number high byte, number low byte, length, then that many bytes (0 to 32).
 use Prim.Native.Nat.{ℕ, _+_, _*_}
-use mathlib.Core.Bool.{Bool, true, false, cond, _&&_, not}
+use mathlib.Core.Bool.{Bool, true, false, cond, _&&_, _||_, not}
 use mathlib.Core.List.{List, [], _∷_, map}
 use lib.ListN.{length, getD, drop}
 use lib.Dec.{leb, eqb}
 use Rattle.lines.specs.Hex.{between, decode}
 use Rattle.lines.specs.Lines.{cut, isLine}
+use Rattle.lines.specs.Texts.{sameText}
 
 pub record Line : Type 0 where
   pub depth : ℕ
@@ -43,13 +44,25 @@ allOf f (x ∷ xs) = f x && allOf f xs
 unfoldable pub isTag : List ℕ → Bool
 isTag t = leb 1 (length t) && allOf (between 0x21 0x7E) t
 
--- what a kind asks of the mark and of the bytes: a mark that there is, and for kind 01, a text, nothing more; for kind 02, an element, "Mark 01 stands only on a text", and a tag
+-- the two words of kind 03
+abbrev pub hiLo : List ℕ
+hiLo = 0x68 ∷ 0x69 ∷ 0x2D ∷ 0x6C ∷ 0x6F ∷ []
+
+abbrev pub loHi : List ℕ
+loHi = 0x6C ∷ 0x6F ∷ 0x2D ∷ 0x68 ∷ 0x69 ∷ []
+
+-- "exactly `hi-lo` or `lo-hi`"
+unfoldable pub isOrder : List ℕ → Bool
+isOrder t = sameText t hiLo || sameText t loHi
+
+-- what a kind asks of the mark, one of the three, and of the bytes. Kind 01, a text: nothing more. Kind 02, an element: "Mark 01 stands only on a text", and a tag. Kind 03, a word order: one of the two words, whatever the mark
 unfoldable pub kindRule : ℕ → ℕ → List ℕ → Bool
 kindRule kind mark text =
     leb mark deletedMark
     && cond (eqb kind 1) true
     (cond (isElement kind) (not (eqb mark changedMark) && isTag text)
-    false)
+    (cond (eqb kind 3) (isOrder text)
+    false))
 
 -- the bytes of a node's line. Depth and number are free in form
 unfoldable pub nodeForm : List ℕ → Bool

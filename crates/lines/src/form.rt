@@ -8,7 +8,8 @@ use crate::table::row_of;
 ghost use mathlib.Core.Path.{_≡_};
 ghost use Rattle.lines.specs.Hex.{decode};
 ghost use Rattle.lines.specs.Lines.{pairsThenEnd, isLine};
-ghost use Rattle.lines.specs.Nodes.{isElement, isTag, kindRule, nodeLine};
+ghost use Rattle.lines.specs.Texts.{sameText};
+ghost use Rattle.lines.specs.Nodes.{isElement, isTag, isOrder, kindRule, nodeLine};
 ghost use Rattle.lines.specs.Entries.{textForm, operandForm, entryLine};
 
 fn pairs_then_end(c: &[u8]) -> bool
@@ -67,6 +68,33 @@ pub fn is_element(kind: u8) -> bool
     kind == 2
 }
 
+// `d` is a text's pairs, with the line's 0A or without it. Like every text it is compared by its length first, then from the last byte to the first.
+fn is_word(d: &[u8], word: &[u8]) -> bool
+    ensures { λ r. ⌜ r ≡ sameText (decode (now (d .entry))) (now (word .entry)) ⌝ }
+{
+    if d.len() / 2 != word.len() {
+        return false;
+    }
+    let mut j = word.len();
+    while 0 < j {
+        j -= 1;
+        if pair_at(d, 2 * j) != word[j] {
+            return false;
+        }
+    }
+    true
+}
+
+// `d` is an order's pairs, with the line's 0A or without it.
+fn is_order(d: &[u8]) -> bool
+    ensures { λ r. ⌜ r ≡ isOrder (decode (now (d .entry))) ⌝ }
+{
+    if is_word(d, b"hi-lo") {
+        return true;
+    }
+    is_word(d, b"lo-hi")
+}
+
 // What a kind asks of the mark and of the bytes, whose pairs are `d`.
 fn kind_rule(kind: u8, mark: u8, d: &[u8]) -> bool
     ensures { λ r. ⌜ r ≡ kindRule kind mark (decode (now (d .entry))) ⌝ }
@@ -77,13 +105,16 @@ fn kind_rule(kind: u8, mark: u8, d: &[u8]) -> bool
     if kind == 1 {
         return true;
     }
-    if !is_element(kind) {
+    if is_element(kind) {
+        if mark == 1 {
+            return false;
+        }
+        return is_tag(d);
+    }
+    if kind != 3 {
         return false;
     }
-    if mark == 1 {
-        return false;
-    }
-    is_tag(d)
+    is_order(d)
 }
 
 pub fn node_line(c: &[u8]) -> bool

@@ -1,4 +1,4 @@
--- The three demands of what a form for C leaves, as a host reads it. The buffers that suffice are an output and the form's own work slice. Then what is asked of a sweep.
+-- The three demands of what a form for C leaves, as a host reads it. The buffers that suffice are an output and the form's own work slice. Then what is asked of word orders and of a sweep.
 use Prim.Native.Nat.{ℕ}
 use mathlib.Core.Path.{_≡_}
 use mathlib.Core.Bool.{true, false}
@@ -7,7 +7,7 @@ use Rattle.lines.specs.Nodes.{Line, nodes}
 use Rattle.runs.specs.Results.{gives}
 use Rattle.calls.specs.Judging.{judgedMaster, judgedShow, judgedPutBack}
 use Rattle.calls.specs.Outcomes.{enough, showCall}
-use Rattle.calls.specs.Demands.{numberOf, written, RefusesRightly, WritesRightly, Given, freshLines, Answers, SameLines}
+use Rattle.calls.specs.Demands.{numberOf, written, RefusesRightly, WritesRightly, Given, freshLines, Answers, SameLines, OrdersKept}
 use Rattle.calls.specs.Sweeping.{enoughForBoth, sweepCall}
 use Rattle.calls.specs.SweepDemands.{SweepRefuses, SweepAnswers}
 use Rattle.meadcinder.specs.Forms.{PackedOutcome, ownWork, asRead, ShowsInC, bothAsRead, SweepsInC}
@@ -34,6 +34,11 @@ pub record Demand3 (master program edited out : List ℕ) (given : Given master 
       → (shown : PackedOutcome) → ShowsInC (written (asRead left)) program out₂ shown
       → (numberOf (asRead shown) ≡ 0)
       × SameLines (freshLines given) (nodes (written (asRead left))) (nodes (written (asRead shown)))
+
+-- ## Request #106
+
+abbrev pub KeepsOrders : (master : List ℕ) → PackedOutcome → Type 0
+KeepsOrders master left = numberOf (asRead left) ≡ 0 → OrdersKept (nodes master) (nodes (written (asRead left)))
 
 -- ## Request #103
 

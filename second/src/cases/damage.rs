@@ -130,7 +130,8 @@ fn text_of_33_bytes(kind: FileKind) -> Vec<u8> {
     [before, &b"61".repeat(33), b"\n"].concat()
 }
 
-/// Unknown kinds and marks, a changed element, tags and lengths that may not be.
+/// Unknown kinds and marks, an order with other bytes, a changed element, tags and lengths that may
+/// not be.
 const WRONG_NODES: [&[u8]; 15] = [
     b"0000000000026869",
     b"0003000000026869",

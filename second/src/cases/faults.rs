@@ -27,7 +27,7 @@ pub fn faulty_master(chance: &mut Chance, mut lines: Vec<NodeLine>, marks: bool)
     lines
 }
 
-/// A depth two more than that of the line before, or one more under a text.
+/// A depth two more than that of the line before, or one more under a text or an order.
 fn jump(chance: &mut Chance, lines: &mut [NodeLine]) {
     if lines.len() < 2 {
         lines[0].depth = 2;
@@ -36,7 +36,7 @@ fn jump(chance: &mut Chance, lines: &mut [NodeLine]) {
     let place = chance.between(1, lines.len() - 1);
     let before = &lines[place - 1];
     lines[place].depth = match before.kind {
-        Kind::Text => before.depth + 1,
+        Kind::Text | Kind::Order => before.depth + 1,
         Kind::Element => before.depth + 2,
     };
 }
@@ -212,7 +212,7 @@ pub fn differing_view(chance: &mut Chance, mut view: Vec<NodeLine>) -> Vec<NodeL
 fn other_kind(line: &mut NodeLine) {
     match line.kind {
         Kind::Element => line.kind = Kind::Text,
-        Kind::Text => {
+        Kind::Text | Kind::Order => {
             line.kind = Kind::Element;
             line.bytes = b"w".to_vec();
             if line.mark == Mark::Changed {

@@ -127,7 +127,7 @@ pub fn mark_some(chance: &mut Chance, lines: &mut [NodeLine]) {
     for line in lines {
         if chance.percent(35) {
             line.mark = match line.kind {
-                Kind::Text if chance.percent(60) => Mark::Changed,
+                Kind::Text | Kind::Order if chance.percent(60) => Mark::Changed,
                 _ => Mark::Deleted,
             };
         }

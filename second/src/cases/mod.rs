@@ -1,14 +1,16 @@
-//! The bench examples and the edges of sweeping, of saved lines and of padded texts; and seeded
-//! cases: each aims at a reply, some at two, and most at none.
+//! The bench examples and the edges of sweeping, of saved lines, of padded texts and of word
+//! orders; and seeded cases: each aims at a reply, some at two, and most at none.
 
 pub mod bench;
 mod build;
 mod chance;
 mod damage;
-pub(crate) mod edge;
+pub mod edge;
 mod edits;
 mod faults;
 mod masters;
+pub mod order_edges;
+pub mod orders;
 pub mod padded_edges;
 pub mod pads;
 mod programs;
@@ -78,8 +80,8 @@ pub fn cases(seed: u64, count: usize) -> Vec<Case> {
     (0..count).map(|index| case(seed, index)).collect()
 }
 
-/// A show or a put back; sweeps, views with many saved lines, and padded texts have streams of
-/// their own.
+/// A show or a put back; sweeps, views with many saved lines, padded texts and word orders have
+/// streams of their own.
 pub fn case(seed: u64, index: usize) -> Case {
     let mut chance = Chance::of_case(seed, index);
     let call = match chance.percent(PUT_BACK_SHARE) {
@@ -149,6 +151,31 @@ fn run(master: &[NodeLine], program: &Program, rules: &Rules) -> Run {
     let mut showing = Showing::new(rules);
     let shown = showing.show(&root, &tree::from_lines(master))?;
     Ok((tree::to_lines(&shown), showing.compared))
+}
+
+/// A ground, with its fresh view and the numbers compared.
+struct Shown {
+    ground: templates::Ground,
+    fresh: Vec<NodeLine>,
+    compared: BTreeSet<u16>,
+}
+
+/// The first ground that runs and suits.
+fn shown(
+    chance: &mut Chance,
+    rules: &Rules,
+    ground: impl Fn(&mut Chance) -> templates::Ground,
+    suits: impl Fn(&Shown) -> bool,
+) -> Shown {
+    loop {
+        let ground = ground(chance);
+        if let Ok((fresh, compared)) = run(&ground.0, &ground.1, rules) {
+            let shown = Shown { ground, fresh, compared };
+            if suits(&shown) {
+                return shown;
+            }
+        }
+    }
 }
 
 /// The program, with lines of its own in the view where it would have none.
@@ -232,6 +259,11 @@ fn files(
     }
     rooms(chance, aims.contains(&Aim::Rooms), &mut case, &WORK_ROOMS);
     case
+}
+
+fn with_files(call: Call, master: &[NodeLine], program: &Program, view: &[NodeLine]) -> Case {
+    let [master, view] = [master, view].map(node_line::write_file);
+    Case::with_least_rooms(call, master, entry::write_file(program), view)
 }
 
 /// The second rooms that a case of a call may have; of the short ones the first is the largest.

@@ -3,7 +3,8 @@
 
 use super::bench::{done, put_back, refused, show};
 use super::edge::{
-    Edge, all_with_mark, both_compared, contents_of, edge, made_text, text_line, with_mark,
+    Edge, all_with_mark, both_compared, chosen_in_a, contents_of, each_with_each, edge,
+    elements_with, in_each_order, inside, made_text, text_line, with_mark,
 };
 use crate::calls::Reply;
 
@@ -189,25 +190,12 @@ fn compared((what, one, other): Pair, agree: bool) -> Vec<Edge> {
     };
     let both = [text_line("00", 0, one), text_line("00", 1, other)];
     let shown = if agree { [both.clone(), both.clone()].concat() } else { both.to_vec() };
-    let each_with_each = [
-        &["0C00", "08", "0500", "0A"],
-        &["0C01", "08", "0500", "0A"],
-        &["0B", "11", "0501", "01", "02"][..],
-    ];
-    let in_slots = edge(what, show(&both, &each_with_each.concat()), done(&shown));
+    let in_slots = edge(what, show(&both, &each_with_each()), done(&shown));
     in_each_order([one, other])
         .into_iter()
         .map(|[source, made]| with_made(source, made))
         .chain([in_slots])
         .collect()
-}
-
-/// Two things in both their orders; in one, if they are alike.
-fn in_each_order<T: Copy + PartialEq>([one, other]: [T; 2]) -> Vec<[T; 2]> {
-    match one == other {
-        true => vec![[one, other]],
-        false => vec![[one, other], [other, one]],
-    }
 }
 
 /// A text is shown and returned with its padding, and a marked one is compared like any other.
@@ -445,24 +433,6 @@ fn compared_texts_with_less_padding() -> Vec<Edge> {
         less("a space for spaces alone", b"  ", "0300", b" "),
         less("a space less, and different", b"hi ", "03026C6F", b"hi"),
     ]
-}
-
-/// A line as it stands in an element at depth 0.
-fn inside(line: &str) -> String {
-    format!("01{}", &line[2..])
-}
-
-/// Elements a, b and c, or the first of them, each with one of the texts inside.
-fn elements_with(texts: &[&str]) -> Vec<String> {
-    let elements = ["00020000000161", "00020000020162", "00020000040163"];
-    let pairs = elements.iter().zip(texts);
-    pairs.flat_map(|(element, text)| [element.to_string(), inside(text)]).collect()
-}
-
-/// The text in element a chooses a branch; slot 00 has the whole master.
-fn chosen_in_a<'a>(made: &'a str, yes: &[&'a str], no: &[&'a str]) -> Vec<&'a str> {
-    let key = contents_of("120161");
-    [&["0C00", "08"], &key[..], &["0B", "11", made], yes, no].concat()
 }
 
 /// The comparison is in a part that is lost, or of one text among others.

@@ -6,17 +6,19 @@ use super::chance::Chance;
 use super::masters::{self, Draft};
 use super::saves::{self, Editing};
 use super::templates::{self, Ground};
-use super::{Aim, WORK_ROOMS};
-use crate::entry::{self, Entry};
-use crate::node_line::{self, Kind, Mark, NodeLine};
+use super::{Shown, WORK_ROOMS};
+use crate::entry::Entry;
+use crate::node_line::{Kind, Mark, NodeLine};
 use crate::rules::Rules;
 use crate::stream::{Call, Case};
 use crate::text;
-use std::collections::BTreeSet;
 
 /// In nodes; larger masters would not compare more.
 const LARGEST_MASTER: usize = 24;
 const LONGEST_TEXT: usize = 32;
+
+/// The shares of the sorts of grounds, in their order.
+const GROUND_WEIGHTS: [usize; 4] = [25, 15, 20, 40];
 
 const SHOW_SHARE: usize = 35;
 const DIFFERING_SHARE: usize = 18;
@@ -53,46 +55,32 @@ pub fn case(seed: u64, index: usize) -> Case {
         true => Call::Show,
         false => Call::PutBack,
     };
-    let ((mut master, program), fresh, compared) = shown(&mut chance, call);
+    let shown = shown(&mut chance, call);
     let view = match call {
-        Call::PutBack => edited(&mut chance, &fresh, &compared),
+        Call::PutBack => edited(&mut chance, &shown),
         _ => Vec::new(),
     };
+    let (mut master, program) = shown.ground;
     if call == Call::Show && chance.percent(30) {
         masters::mark_some(&mut chance, &mut master);
     }
-    let [master, view] = [master, view].map(|lines| node_line::write_file(&lines));
-    let program = entry::write_file(&program);
-    let mut case = Case::with_least_rooms(call, master, program, view);
+    let mut case = super::with_files(call, &master, &program, &view);
     super::rooms(&mut chance, false, &mut case, &WORK_ROOMS);
     case
 }
 
-/// A ground on which a text of the master is compared, and, to be put back, shown; with its fresh
-/// view and the numbers compared.
-fn shown(chance: &mut Chance, call: Call) -> (Ground, Vec<NodeLine>, BTreeSet<u16>) {
-    loop {
-        let (master, program) = ground(chance);
-        if let Ok((fresh, compared)) = super::run(&master, &program, &Rules::document())
-            && !compared.is_empty()
-            && master.len() <= LARGEST_MASTER
-            && (call == Call::Show || fresh.iter().any(saves::is_text_of_the_master))
-        {
-            return ((master, program), fresh, compared);
-        }
-    }
+/// A ground on which a text of the master is compared, and, to be put back, shown.
+fn shown(chance: &mut Chance, call: Call) -> Shown {
+    let suits = |shown: &Shown| {
+        !shown.compared.is_empty()
+            && shown.ground.0.len() <= LARGEST_MASTER
+            && (call == Call::Show || shown.fresh.iter().any(saves::is_text_of_the_master))
+    };
+    super::shown(chance, &Rules::document(), ground, suits)
 }
 
 fn ground(chance: &mut Chance) -> Ground {
-    let (mut master, mut program) = match chance.weighted(&[25, 15, 20, 40]) {
-        0 => templates::comparing(chance),
-        1 => super::ground(chance, &[]),
-        2 => texts_chosen(chance),
-        _ => chosen_by_key(chance),
-    };
-    if chance.percent(COPIED_SHARE) {
-        program = saves::doubled(program);
-    }
+    let (mut master, mut program) = drawn(chance, &GROUND_WEIGHTS, COPIED_SHARE);
     let words = [*chance.pick(&WORDS), *chance.pick(&WORDS)];
     for line in master.iter_mut().filter(|line| line.kind == Kind::Text) {
         line.bytes = padded_word(chance, words);
@@ -101,6 +89,20 @@ fn ground(chance: &mut Chance) -> Ground {
         if let Entry::Text(text) = entry {
             *text = padded_word(chance, words);
         }
+    }
+    (master, program)
+}
+
+/// A ground whose program mostly compares texts; a share of the programs stand beside themselves.
+pub(super) fn drawn(chance: &mut Chance, weights: &[usize; 4], copied_share: usize) -> Ground {
+    let (master, mut program) = match chance.weighted(weights) {
+        0 => templates::comparing(chance),
+        1 => super::ground(chance, &[]),
+        2 => texts_chosen(chance),
+        _ => chosen_by_key(chance),
+    };
+    if chance.percent(copied_share) {
+        program = saves::doubled(program);
     }
     (master, program)
 }
@@ -167,7 +169,8 @@ fn padded(chance: &mut Chance, word: &[u8]) -> Vec<u8> {
 }
 
 /// A text with another padding, or with what looks like it.
-fn padded_anew(chance: &mut Chance, old: &[u8]) -> Vec<u8> {
+fn padded_anew(chance: &mut Chance, fresh: &NodeLine) -> Vec<u8> {
+    let old = fresh.bytes.as_slice();
     loop {
         let text = match may_have_another_padding(old) && chance.percent(85) {
             true => with_another_padding(chance, old),
@@ -199,14 +202,10 @@ fn with_another_padding(chance: &mut Chance, old: &[u8]) -> Vec<u8> {
     }
 }
 
-fn edited(chance: &mut Chance, fresh: &[NodeLine], compared: &BTreeSet<u16>) -> Vec<NodeLine> {
-    let mut view = match chance.percent(SAVED_SHARE) {
-        true => saves::visited(chance, fresh, Aim::Through),
-        false => fresh.to_vec(),
-    };
-    saves::edit_some(chance, fresh, compared, &mut view, &EDITING);
+fn edited(chance: &mut Chance, shown: &Shown) -> Vec<NodeLine> {
+    let mut view = saves::edited(chance, shown, SAVED_SHARE, &EDITING);
     if chance.percent(DIFFERING_SHARE) {
-        pad_where_none_may(chance, fresh, &mut view);
+        pad_where_none_may(chance, &shown.fresh, &mut view);
     }
     view
 }

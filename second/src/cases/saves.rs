@@ -3,11 +3,9 @@
 
 use super::build::{self, Program};
 use super::chance::Chance;
-use super::{Aim, LONGEST_PROGRAM, WORK_ROOMS, templates, words};
-use crate::entry;
-use crate::node_line::{self, FROM_PROGRAM, Kind, Mark, NodeLine};
+use super::{Aim, LONGEST_PROGRAM, Shown, WORK_ROOMS, templates, words};
+use crate::node_line::{FROM_PROGRAM, Kind, Mark, NodeLine};
 use crate::stream::{Call, Case};
-use std::collections::BTreeSet;
 
 const AIMS: [Aim; 3] = [Aim::Through, Aim::ViewComparison, Aim::ProgramMarks];
 
@@ -26,29 +24,23 @@ pub fn cases(seed: u64, count: usize) -> Vec<Case> {
 pub fn case(seed: u64, index: usize) -> Case {
     let mut chance = Chance::of_case(seed, index);
     let aim = AIMS[chance.weighted(&WEIGHTS)];
-    let ((master, program), fresh, compared) = shown(&mut chance, aim);
-    let mut view = visited(&mut chance, &fresh, aim);
-    edit_some(&mut chance, &fresh, &compared, &mut view, &EDITING);
+    let shown = shown(&mut chance, aim);
+    let mut view = visited(&mut chance, &shown.fresh, aim);
+    edit_some(&mut chance, &shown, &mut view, &EDITING);
     if aim == Aim::ViewComparison {
         misplace(&mut chance, &mut view);
     }
-    let [master, view] = [master, view].map(|lines| node_line::write_file(&lines));
-    let program = entry::write_file(&program);
-    let mut case = Case::with_least_rooms(Call::PutBack, master, program, view);
+    let (master, program) = shown.ground;
+    let mut case = super::with_files(Call::PutBack, &master, &program, &view);
     super::rooms(&mut chance, false, &mut case, &WORK_ROOMS);
     case
 }
 
-/// A ground whose fresh view has a text of the master, that view, and the numbers compared.
-fn shown(chance: &mut Chance, aim: Aim) -> (templates::Ground, Vec<NodeLine>, BTreeSet<u16>) {
-    loop {
-        let (master, program) = ground(chance, aim);
-        if let Ok((fresh, compared)) = super::run(&master, &program, &super::rules_before_padding())
-            && fresh.iter().any(is_text_of_the_master)
-        {
-            return ((master, program), fresh, compared);
-        }
-    }
+/// A ground whose fresh view has a text of the master.
+fn shown(chance: &mut Chance, aim: Aim) -> Shown {
+    let ground = |chance: &mut Chance| ground(chance, aim);
+    let suits = |shown: &Shown| shown.fresh.iter().any(is_text_of_the_master);
+    super::shown(chance, &super::rules_before_padding(), ground, suits)
 }
 
 fn ground(chance: &mut Chance, aim: Aim) -> templates::Ground {
@@ -74,15 +66,30 @@ pub(super) fn doubled(program: Program) -> Program {
 }
 
 fn is_text(line: &NodeLine) -> bool {
-    line.kind == Kind::Text
+    line.kind != Kind::Element
 }
 
 pub(super) fn is_text_of_the_master(line: &NodeLine) -> bool {
     is_text(line) && line.number != FROM_PROGRAM
 }
 
+/// The fresh view with a few edits; in a share of the views lines were visited too.
+pub(super) fn edited(
+    chance: &mut Chance,
+    shown: &Shown,
+    visited_share: usize,
+    editing: &Editing,
+) -> Vec<NodeLine> {
+    let mut view = match chance.percent(visited_share) {
+        true => visited(chance, &shown.fresh, Aim::Through),
+        false => shown.fresh.clone(),
+    };
+    edit_some(chance, shown, &mut view, editing);
+    view
+}
+
 /// The fresh view as an editor leaves it that marks each line it has visited.
-pub(super) fn visited(chance: &mut Chance, fresh: &[NodeLine], aim: Aim) -> Vec<NodeLine> {
+fn visited(chance: &mut Chance, fresh: &[NodeLine], aim: Aim) -> Vec<NodeLine> {
     let mut view = fresh.to_vec();
     let share = *chance.pick(&[100, 90, 60, 30]);
     for line in view.iter_mut().filter(|line| is_text(line)) {
@@ -94,8 +101,8 @@ pub(super) fn visited(chance: &mut Chance, fresh: &[NodeLine], aim: Aim) -> Vec<
     view
 }
 
-/// A new text, made from the old one.
-type NewText = fn(&mut Chance, &[u8]) -> Vec<u8>;
+/// A new text, made from the fresh line.
+type NewText = fn(&mut Chance, &NodeLine) -> Vec<u8>;
 
 /// How a few nodes are edited.
 pub(super) struct Editing {
@@ -105,13 +112,8 @@ pub(super) struct Editing {
 }
 
 /// Edits a few nodes: texts rather than elements, and often none that was compared.
-pub(super) fn edit_some(
-    chance: &mut Chance,
-    fresh: &[NodeLine],
-    compared: &BTreeSet<u16>,
-    view: &mut [NodeLine],
-    editing: &Editing,
-) {
+fn edit_some(chance: &mut Chance, shown: &Shown, view: &mut [NodeLine], editing: &Editing) {
+    let Shown { fresh, compared, .. } = shown;
     let with_elements = chance.percent(25);
     let open = |with_compared: bool| -> Vec<u16> {
         let may_be_edited = |line: &&NodeLine| {
@@ -160,13 +162,14 @@ fn edit_node(
 /// The mark and the bytes that a line is given.
 fn edit(chance: &mut Chance, fresh: &NodeLine, new_text: NewText) -> (Mark, Vec<u8>) {
     match is_text(fresh) && chance.percent(70) {
-        true => (Mark::Changed, new_text(chance, &fresh.bytes)),
+        true => (Mark::Changed, new_text(chance, fresh)),
         false => (Mark::Deleted, fresh.bytes.clone()),
     }
 }
 
 /// A text a little off the old one, or a word.
-fn near(chance: &mut Chance, old: &[u8]) -> Vec<u8> {
+fn near(chance: &mut Chance, fresh: &NodeLine) -> Vec<u8> {
+    let old = fresh.bytes.as_slice();
     match (chance.below(8), old) {
         (0, _) if old.len() < 32 => [old, b" "].concat(),
         (1, _) if old.len() < 32 => [old, b"\0"].concat(),

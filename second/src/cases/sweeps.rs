@@ -6,9 +6,8 @@ use super::chance::Chance;
 use super::damage::{self, FileKind};
 use super::{SecondRooms, edits, faults, masters, words};
 use crate::calls;
-use crate::entry;
 use crate::node_line::{self, FROM_PROGRAM, Kind, Mark, NodeLine};
-use crate::rules::SavedMarks;
+use crate::rules::{Rules, SavedMarks};
 use crate::stream::{Call, Case};
 
 /// The fault that a case is given.
@@ -25,7 +24,7 @@ const AIMS: [Aim; 4] = [Aim::Through, Aim::Rooms, Aim::MasterForm, Aim::MasterBo
 /// The shares of the aims, in their order.
 const WEIGHTS: [usize; 4] = [64, 10, 13, 13];
 
-const NUMBERS_ROOMS: SecondRooms =
+pub(super) const NUMBERS_ROOMS: SecondRooms =
     SecondRooms { enough: [640, 641, 1_000, 16_384], short: [639, 639, 5, 0] };
 
 const SECOND_AIM_SHARE: usize = 30;
@@ -39,7 +38,7 @@ pub fn cases(seed: u64, count: usize) -> Vec<Case> {
 pub fn case(seed: u64, index: usize) -> Case {
     let mut chance = Chance::of_case(seed, index);
     let aims = aims(&mut chance);
-    let mut master = returned_master(&mut chance);
+    let mut master = returned_master(&mut chance, &rules_before_saving(), put_back);
     if aims.contains(&Aim::MasterBounds) {
         master = faults::faulty_master(&mut chance, master, false);
     }
@@ -60,13 +59,22 @@ fn aims(chance: &mut Chance) -> Vec<Aim> {
     aims
 }
 
-/// What the first accepted put back returns; over the whole master every one is. An old text marked
-/// changed keeps its mark, as before request #101: such masters are there to be swept.
-fn returned_master(chance: &mut Chance) -> Vec<NodeLine> {
+/// An old text marked changed keeps its mark, as before request #101: such masters are there to be
+/// swept.
+fn rules_before_saving() -> Rules {
     let mut rules = super::rules_before_padding();
     rules.saving.marks = SavedMarks::None;
+    rules
+}
+
+/// What the first accepted put back returns.
+pub(super) fn returned_master(
+    chance: &mut Chance,
+    rules: &Rules,
+    put_back: fn(&mut Chance) -> Case,
+) -> Vec<NodeLine> {
     loop {
-        let reply = calls::answer(&put_back(chance), &rules);
+        let reply = calls::answer(&put_back(chance), rules);
         if reply.number == 0 {
             return node_line::read_file(&reply.output, &rules.lines)
                 .expect("a returned master is of right form");
@@ -74,6 +82,7 @@ fn returned_master(chance: &mut Chance) -> Vec<NodeLine> {
     }
 }
 
+/// Over the whole master it is accepted.
 fn put_back(chance: &mut Chance) -> Case {
     let (master, program): (Vec<NodeLine>, Program) = match chance.percent(WHOLE_MASTER_SHARE) {
         true => (master(chance), build::source()),
@@ -86,8 +95,7 @@ fn put_back(chance: &mut Chance) -> Case {
         Ok((fresh, _)) => marked(chance, fresh),
         Err(_) => master.clone(),
     };
-    let [master, view] = [master, view].map(|lines| node_line::write_file(&lines));
-    Case::with_least_rooms(Call::PutBack, master, entry::write_file(&program), view)
+    super::with_files(Call::PutBack, &master, &program, &view)
 }
 
 /// Larger than most, so that there is much to remove and much to keep.

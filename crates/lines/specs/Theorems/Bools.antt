@@ -36,6 +36,9 @@ pub or-right : (a b : Bool) → b ≡ true → (a || b) ≡ true
 or-right true b e = refl
 or-right false b e = e
 
+pub or-second : (a b : Bool) → a ≡ false → (a || b) ≡ b
+or-second a b e = rw e
+
 -- the one, if it is not the other
 pub or-other : (a b : Bool) → a ≡ false → (a || b) ≡ true → b ≡ true
 or-other a b p e = rw p at e

@@ -1,4 +1,4 @@
--- What keeps a form's contract meets the three demands, or what is asked of a sweep, as a host reads it.
+-- What keeps a form's contract meets the three demands and what is asked of word orders, or what is asked of a sweep, as a host reads it.
 use mathlib.Core.Path.{_≡_, sym, subst}
 use mathlib.Core.Bool.{true, false}
 use mathlib.Core.List.{List}
@@ -7,14 +7,15 @@ use Rattle.lines.specs.Nodes.{Line, nodes}
 use Rattle.runs.specs.Results.{gives}
 use Rattle.calls.specs.Judging.{judgedMaster, judgedShow, judgedPutBack}
 use Rattle.calls.specs.Outcomes.{showCall}
-use Rattle.calls.specs.Demands.{numberOf, written, RefusesRightly, WritesRightly, Given, freshLines, Answers, SameLines}
+use Rattle.calls.specs.Demands.{numberOf, written, RefusesRightly, WritesRightly, Given, freshLines, Answers, SameLines, OrdersKept}
 use Rattle.calls.specs.Theorems.Demand12 as calls
 use Rattle.calls.specs.Theorems.Demand3 as carried
+use Rattle.calls.specs.Theorems.OrdersKept as orders
 use Rattle.calls.specs.Sweeping.{enoughForBoth, sweepCall}
 use Rattle.calls.specs.SweepDemands.{SweepRefuses, SweepAnswers}
 use Rattle.calls.specs.Theorems.Sweeping as sweeping
 use Rattle.meadcinder.specs.Forms.{PackedOutcome, ownWork, asRead, ShowsInC, PutsBackInC, bothAsRead, SweepsInC}
-use Rattle.meadcinder.specs.Demands.{ShowDemand1, PutDemand1, ShowDemand2, PutDemand2, Demand3, SweepDemand}
+use Rattle.meadcinder.specs.Demands.{ShowDemand1, PutDemand1, ShowDemand2, PutDemand2, Demand3, KeepsOrders, SweepDemand}
 
 module _ (master program out : List ℕ) (left : PackedOutcome) (shows : ShowsInC master program out left) where
   pub show-demand1 : ShowDemand1 master program out left
@@ -42,6 +43,9 @@ module _ (master program edited out : List ℕ) (left : PackedOutcome) (puts : P
               (a .again done out₂ ownWork room),
         );
       }
+
+  pub order-kept : KeepsOrders master left
+  order-kept = subst (λ z. numberOf z ≡ 0 → OrdersKept (nodes master) (nodes (written z))) (sym (puts .reads)) (orders.order-kept master program edited out ownWork)
 
 module _ (master out numbers : List ℕ) (answer : ℕ) (out′ numbers′ : List ℕ) (swept : SweepsInC master out numbers answer out′ numbers′) where
   sweep-answers : enoughForBoth out numbers ≡ true → (ls : List Line) → judgedMaster false master ≡ gives ls

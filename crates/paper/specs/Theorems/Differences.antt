@@ -1,11 +1,12 @@
 -- Each difference between the paper and document 01, computed.
 use mathlib.Core.Path.{_≡_, refl}
+use mathlib.Core.Bool.{false}
 use mathlib.Core.List.{List, [], _∷_, map}
 use Prim.Native.Nat.{ℕ, zero, suc}
 use Rattle.lines.specs.declared.verdict.Verdict.{Verdict}
 use Rattle.lines.specs.declared.verdict.Verdict.the-variants.{Fine, Fault}
 use Rattle.lines.specs.Entries.{slotOf, textOf}
-use Rattle.lines.specs.Nodes.{Line, isElement, isMarked}
+use Rattle.lines.specs.Nodes.{Line, changedMark, isElement, isMarked, hiLo, loHi, isOrder, kindRule}
 use Rattle.lines.specs.Masters.{depthAfter, placed, boundsFrom, masterBounds, unmarked}
 use Rattle.lines.specs.Texts.{sameText, keptBefore, trimmed, agree}
 use Rattle.lines.specs.Verdicts.{firstFrom}
@@ -25,7 +26,7 @@ use Rattle.paper.specs.Operators.{guard}
 use Rattle.paper.specs.Strict.{strictGuard}
 use Rattle.paper.specs.Semantics.{forward, backward}
 use Rattle.paper.specs.Programs.{worded, inPaper, inPrint}
-use Rattle.paper.specs.Lines.{itemsAt, sequence}
+use Rattle.paper.specs.Lines.{itemsAt, sequence, linesAt, paperLines, kindsIn}
 use Rattle.paper.specs.Agreement.{clashOf, handedBackBy, putBackBy}
 
 abbrev hi : List ℕ
@@ -281,6 +282,21 @@ padded-text : (forward (inPrint asks) [] (sequence padded) ≡ got none)
 unfolding forward worded sequence itemsAt numberedFrom lineOf whole showing shownLine view show oneText verdict valueOf
     elementOf bytesOf masterNumber isElement sameText keptBefore trimmed agree
 padded-text = (refl, refl, refl)
+
+-- ## A word order: the paper has one kind of string, into which any text may be put back; reply 8 keeps other bytes from an order
+
+abbrev order : ℕ → List ℕ → List Line
+order mark bytes = record { depth = 0; kind = 3; mark = mark; number = 0; text = bytes } ∷ []
+
+-- the source that the paper hands back, printed with the kinds of the master's nodes
+abbrev printedBack : List Line → List Line → May (List Line)
+printedBack master edited = putBackBy guard (source 0) master edited >>= λ r. got (paperLines (kindsIn master) (r .0))
+
+word-order : (printedBack (order 0 hiLo) (order 1 hi) ≡ got (order 1 hi))
+    × (kindRule 3 changedMark hi ≡ false)
+    × (printedBack (order 0 hiLo) (order 1 loHi) ≡ got (order 1 loHi))
+unfolding backward worded sequence itemsAt paperLines linesAt isElement kindRule isOrder sameText
+word-order = (refl, refl, refl)
 
 -- ## Size: the paper joins any two sequences, document 01 stops over 128 nodes
 

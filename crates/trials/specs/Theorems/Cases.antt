@@ -10,7 +10,7 @@ use borrow.Author.Tests.{le-leb}
 use Rattle.lines.specs.Hex.{isHex, hexValue, decode, hexDigit, encode}
 use Rattle.lines.specs.Lines.{push, cut, pairsThenEnd, isLine}
 use Rattle.lines.specs.Texts.{sameText, keptBefore, trimmed, agree}
-use Rattle.lines.specs.Nodes.{Line, nodes, isMarked, isElement, allOf, isTag, kindRule, nodeForm, nodeLine}
+use Rattle.lines.specs.Nodes.{Line, nodes, isMarked, isElement, allOf, isTag, isOrder, kindRule, nodeForm, nodeLine}
 use Rattle.lines.specs.Entries.{rows, rowOf, textForm, operandForm, entryForm, entryLine, entries, slotOf, textOf}
 use Rattle.lines.specs.Files.{formOf, limitOf, scanFrom, scan}
 use Rattle.lines.specs.Masters.{depthAfter, placed, boundsFrom, masterBounds, unmarked}
@@ -96,7 +96,7 @@ unfolding answered file
     judgedShow judgedPutBack judgedProgram judgedMaster judgedView judgedStandings masterRule formed keeps isTree ran
     scan scanFrom formOf limitOf cut push isLine pairsThenEnd isHex decode hexValue
     entries entryLine entryForm operandForm rowOf rows textForm isTag allOf slotOf textOf
-    nodes nodeLine nodeForm kindRule isElement isMarked
+    nodes nodeLine nodeForm kindRule isElement isOrder isMarked
     masterBounds boundsFrom placed depthAfter unmarked firstFrom earlier
     firstDifference differenceFrom sameLine sameHead programMark programMarked markCounted sameText keptBefore trimmed agree
     readProgram below makes operations among

@@ -46,11 +46,11 @@ to-lo = line 8 0x0001010000026C6F
 -- ## Programs
 
 -- the text, if it equals that of the entry
-abbrev if-equal : List ℕ → List ℕ
+abbrev pub if-equal : List ℕ → List ℕ
 if-equal entry = file (line 1 0x0B ∷ line 1 0x11 ∷ entry ∷ line 1 0x01 ∷ line 1 0x02 ∷ [])
 
 -- the whole, if the text in the element "a" equals the one in the element "b"
-abbrev if-a-is-b : List ℕ
+abbrev pub if-a-is-b : List ℕ
 if-a-is-b =
     file
     (line 2 0x0C00 ∷ line 1 0x08

@@ -26,7 +26,7 @@ pub record SweepCase : Type 0 where
   pub lines : List ℕ
   pub numbers : List ℕ
 
-abbrev row : List ℕ → ℕ → ℕ → ℕ → List ℕ → List ℕ → SweepCase
+abbrev pub row : List ℕ → ℕ → ℕ → ℕ → List ℕ → List ℕ → SweepCase
 row master number place length lines numbers = record { master = master; number = number; place = place; length = length; lines = lines; numbers = numbers }
 
 -- with any outputs that suffice, the whole outcome is as claimed
@@ -66,7 +66,7 @@ unfolding sweepCall sweepAnswer
 swept-holds c e out numbers room =
     rw room (settles (judgedMaster false (c .master)) out numbers ∙ ap (λ (a : Answer). outcome (a .0) (a .1) (a .2) (putAt out 0 (a .3)) (putAt numbers 0 (a .4))) e)
 
-all-swept : (cs : List SweepCase) → map (λ c. sweepAnswer (c .master)) cs ≡ map claim cs → AllSwept cs
+pub all-swept : (cs : List SweepCase) → map (λ c. sweepAnswer (c .master)) cs ≡ map claim cs → AllSwept cs
 all-swept [] e = tt
 all-swept (c ∷ cs) e =
     (swept-holds c (let z : sweepAnswer (c .master) ≡ claim c = cc in z), all-swept cs (let z : map (λ c. sweepAnswer (c .master)) cs ≡ map claim cs = cc in z))

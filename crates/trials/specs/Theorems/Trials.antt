@@ -1,12 +1,12 @@
 -- Calls that have to be rejected: each is given, and shown not to meet the demand that it breaks, nor then our contract.
 use Prim.Native.Nat.{ℕ}
-use mathlib.Core.Path.{_≡_, refl, sym, ap, _∙_}
+use mathlib.Core.Path.{_≡_, refl, sym, ap, subst, _∙_}
 use mathlib.Core.Bool.{cond}
 use mathlib.Core.List.{List, [], _∷_}
-use mathlib.Core.Logic.{inr}
+use mathlib.Core.Logic.{_⊎_, inl, inr}
 use native.Mathlib.Omega.{arith}
-use lib.ListN.{length}
-use Rattle.lines.specs.Nodes.{Line, nodes, untouchedMark, lineAt}
+use lib.ListN.{length, getD}
+use Rattle.lines.specs.Nodes.{Line, nodes, untouchedMark, hiLo, loHi, lineAt}
 use Rattle.lines.specs.Writing.{fileOf, putAt}
 use Rattle.lines.specs.Theorems.PutAt.{put-front}
 use Rattle.values.specs.Standings.{isEdit}
@@ -15,7 +15,7 @@ use Rattle.runs.specs.Programs.{contents}
 use Rattle.runs.specs.Showing.{Shown}
 use Rattle.calls.specs.Judging.{Judged, judgedShow}
 use Rattle.calls.specs.Outcomes.{Outcome, outcome, cleared, showCall, putBackCall}
-use Rattle.calls.specs.Demands.{ShowLike, PutLike, numberOf, lengthOf, written, ShowDemand2, Given, freshLines, EditedLine, Demand3, SavedSame}
+use Rattle.calls.specs.Demands.{ShowLike, PutLike, numberOf, lengthOf, written, ShowDemand2, Given, freshLines, EditedLine, Demand3, SavedSame, OrdersKept, KeepsOrders}
 use Rattle.calls.specs.Theorems.Demand3.{demand3}
 use Rattle.trials.specs.Theorems.Contracts.{MeetsShow, MeetsPutBack, fails-show-demand2, fails-demand3}
 use Rattle.trials.specs.Theorems.Cases.{line, file, shownNode, putsBack, case, answer, holds, roomyOut, roomyWork, roomy}
@@ -159,6 +159,23 @@ saved-otherwise put h k same =
     let e = same M PP PP-view-saved (v .read-as) (v .reads) (nodes M) M-lines _ (v .shows) (nodes PP-view-saved) (v .passes) roomyOut roomyWork in
     let z : _≡_ {A = ℕ} 11 0 = sym h ∙ (ap numberOf e ∙ (ap (λ (s : List ℕ). numberOf (put M PP s roomyOut roomyWork)) saved-counted ∙ k)) in
     omega arith
+
+-- ## One that writes another word into an order (request #106)
+
+-- "HI-LO"
+abbrev misspelt : List ℕ
+misspelt = file (line 11 0x00030100000548492D4C4F ∷ [])
+
+neither-word : let text = (lineAt (nodes misspelt) 0) .text in (text ≡ hiLo) ⊎ (text ≡ loHi) → ⊥
+unfolding answer
+neither-word (inl e) = let z : _≡_ {A = ℕ} 0x48 0x68 = ap (λ (t : List ℕ). getD t 0 0) e in omega arith
+neither-word (inr e) = let z : _≡_ {A = ℕ} 0x48 0x6C = ap (λ (t : List ℕ). getD t 0 0) e in omega arith
+
+pub misspells-rejected : (put : PutLike) (master program edited out work : List ℕ) → let r = put master program edited out work in
+    numberOf r ≡ 0 → written r ≡ misspelt → KeepsOrders put → ⊥
+unfolding answer
+misspells-rejected put master program edited out work done back keeps =
+    neither-word ((subst (λ (s : List ℕ). OrdersKept (nodes master) (nodes s)) back (keeps master program edited out work done)) .word 0 refl)
 
 -- ## One with an invented length, whatever it is (demand 2 counts the lines)
 
