@@ -31,7 +31,7 @@ typedef size_t meadcinder_size;
 
 #define MEADCINDER_OUTPUT_ROOM 9856
 #define MEADCINDER_NUMBERS_ROOM 640
-#define MEADCINDER_STACK 98304
+#define MEADCINDER_STACK 32768
 
 /* An answer is number * 2^32 + place * 2^16 + length. The length is 0 unless the number is MEADCINDER_DONE. */
 #define MEADCINDER_NUMBER(answer) ((unsigned)((answer) >> 32))

@@ -30,10 +30,9 @@ use Rattle.runs.specs.Theorems.WholePrograms.{program-placed}
 use Rattle.calls.specs.Judging.{judgedStandings}
 use Rattle.calls.specs.Outcomes.{outRoom, settled}
 use Rattle.calls.specs.declared.reply.Reply.{Reply}
-use Rattle.calls.specs.Engine.Parts.{replied, Settles, sourceWords, broughtWords, textsOf}
+use Rattle.calls.specs.Engine.Parts.{replied, Settles, sourceWords, viewLines, broughtWords, textsOf}
 use Rattle.calls.specs.Engine.Parts.{handedLines, HandingRoom, Carriable, CarriedBack}
 use Rattle.calls.proofs.Grounded.{program-ready, same-lookup, source-value, no-slots-at, no-slots-bound, same-showing}
-use Rattle.calls.specs.Theorems.FreshLines.{length-view}
 use Rattle.calls.proofs.ViewWords.{length-brought}
 use Rattle.calls.proofs.Carried.{brought-named, brought-standings, putBackWhole, broughtIn, carried-clashes, carried-goes}
 use Rattle.calls.proofs.Steps.{written-settles}
@@ -51,19 +50,15 @@ pub record Stood (E : List Entry) (L es : List Line) (w out : List ℕ) : Type 0
   pub inside : 256 + length L ≤ length w
   pub searched : (n : ℕ) → n ≡ length L → (first : Verdict) → ((texts : ℕ → List ℕ) → first ≡ firstFrom isClash 0 (standingsAt texts w 256 n)) → Handed E L es w out first
 
-module _ {E : List Entry} {ends : List ℕ} {L fresh es : List Line} {w out : List ℕ} (k : Carriable E ends L fresh es w out) where
+module _ {E : List Entry} {ends : List ℕ} {L es : List Line} {w out : List ℕ} (k : Carriable E ends L es w out) where
+  abbrev fresh : List Line
+  fresh = viewLines E L w (length es)
+
   abbrev words : List ℕ
   words = broughtWords fresh es
 
   few-words : length words ≤ 128
   few-words = let e = length-brought fresh es in let f = k .few in omega arith
-
-  -- as many fresh lines as the view has
-  pub fresh-many : length fresh ≡ length es
-  fresh-many =
-      let X = k .runnable .tree in
-      let o = k .shows X (length E) (program-placed E X (k .runnable .read) .stands) in
-      ap length (o .3) ∙ length-view L (o .0 .value) ∙ o .2
 
   module _ {w₁ : List ℕ} (comes : w₁ ≡ putAt w 128 words) where
     fits : 128 + length words ≤ length w

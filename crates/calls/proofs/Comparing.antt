@@ -1,28 +1,18 @@
 -- The view beside the fresh one: what the parts of that comparison ask, and what it leaves to carry.
-use Prim.Native.Nat.{ℕ, suc, _+_, _-_, _≤_}
+use Prim.Native.Nat.{ℕ, suc, _-_, _≤_}
 use native.Mathlib.Nat.{sub-zero}
 use native.Mathlib.Omega.{arith}
 use mathlib.Core.Path.{_≡_, refl, sym, ap, subst, _∙_}
 use mathlib.Core.Bool.{Bool, true, false, cond}
 use mathlib.Core.List.{List, [], _∷_}
 use lib.ListN.{length, take}
-use Rattle.lines.specs.declared.scan.File.the-variants.{View}
-use Rattle.lines.specs.declared.scan.Scan.{Scan}
-use Rattle.lines.specs.declared.scan.Scan.the-variants.{Lines, Wrong}
 use Rattle.lines.specs.declared.verdict.Verdict.the-variants.{Fine, Fault}
-use Rattle.lines.specs.Files.{scan}
 use Rattle.lines.specs.Nodes.{Line, nodes}
 use Rattle.lines.specs.Entries.{Entry}
 use Rattle.lines.specs.Views.{sameLine, differenceFrom, firstDifference}
-use Rattle.lines.specs.Writing.{fileOf, putAt}
-use Rattle.lines.specs.Theorems.PutAt.{put-part}
-use Rattle.lines.specs.Theorems.Reading.{reads-view, scanned-whole, said-lines}
 use Rattle.lines.specs.Theorems.Widths.{file-short}
-use Rattle.lines.specs.Theorems.RoundTrip.{nodes-written}
-use Rattle.lines.specs.Engine.Starts.{Scanned, nodeAt, linesOf}
-use Rattle.lines.specs.Engine.Writes.{WroteLines}
+use Rattle.lines.specs.Engine.Starts.{linesOf}
 use Rattle.values.specs.Engine.Words.{valueAt}
-use Rattle.values.specs.Theorems.WordLaws.{length-value}
 use Rattle.runs.specs.Results.{gives}
 use Rattle.runs.specs.Programs.{Transformation}
 use Rattle.runs.specs.Reading.{readProgram}
@@ -32,14 +22,14 @@ use Rattle.runs.specs.Engine.Runs.{madeBy}
 use Rattle.runs.specs.Theorems.Inversion.{gives-inj}
 use Rattle.runs.specs.Theorems.WholePrograms.{program-placed}
 use Rattle.calls.specs.Judging.{judgedView}
-use Rattle.calls.specs.Outcomes.{outRoom}
 use Rattle.calls.specs.declared.reply.Reply.{Reply}
 use Rattle.calls.specs.declared.reply.Step.{Step}
 use Rattle.calls.specs.declared.reply.Step.the-variants.{Goes, Refused}
-use Rattle.calls.specs.Engine.Parts.{Refuses, viewLines, ViewRoom, ViewGoes, ViewJudged, Carriable, CarriedBack, Comparable, ComparedBack}
+use Rattle.calls.specs.Engine.Parts.{Refuses, viewLines, ShownWords, ViewGoes, ViewJudged, Carriable, CarriedBack, Comparable, ComparedBack}
 use Rattle.calls.specs.Theorems.Judged.{ViewPassed, view-passed}
-use Rattle.calls.specs.Theorems.FreshLines.{length-view, fresh-scan}
+use Rattle.calls.specs.Theorems.FreshLines.{length-view}
 use Rattle.calls.specs.Theorems.Returned.{returned-writable}
+use Rattle.calls.proofs.WordLines.{view-long}
 use Rattle.calls.proofs.Steps.{refused-first, refused-settles, passed-settles}
 
 -- no difference, as many lines
@@ -55,27 +45,18 @@ same-count k (v ∷ vs) (f ∷ fs) h = ap suc (same-count (suc k) vs fs (go (sam
     go false q = cc
 
 -- the step of a view judged beside the fresh one: its refusal, or what is carried into the master
-pub record Beside (E : List Entry) (ends : List ℕ) (L fresh : List Line) (w out edited places : List ℕ) (step : Step) : Type 0 where
+pub record Beside (E : List Entry) (ends : List ℕ) (L : List Line) (w out edited places : List ℕ) (step : Step) : Type 0 where
   pub refuses : (r : Reply) → step ≡ Refused r → ComparedBack E L edited out out r
   pub few : (v : ℕ) → step ≡ Goes v → v ≤ 128
-  pub carriable : (v : ℕ) → step ≡ Goes v → Carriable E ends L fresh (linesOf edited (take (v - 0) places)) w out
+  pub carriable : (v : ℕ) → step ≡ Goes v → Carriable E ends L (linesOf edited (take (v - 0) places)) w out
   pub settles : (v : ℕ) → step ≡ Goes v → (out′ : List ℕ) (r : Reply) → CarriedBack E L (linesOf edited (take (v - 0) places)) out out′ r → ComparedBack E L edited out out′ r
 
 module _ {E : List Entry} {ends : List ℕ} {L : List Line} {len : ℕ} {w out : List ℕ} (k : Comparable E ends L len w out) where
   abbrev fresh : List Line
   fresh = viewLines E L w len
 
-  inside : 128 + len ≤ length w
-  inside = let f = k .goes .few in let r = k .work-room in omega arith
-
-  few-fresh : length fresh ≤ 128
-  few-fresh = let a = length-view L (valueAt (madeBy E) w 128 len) in let b = length-value (madeBy E) w 128 len inside in let f = k .goes .few in omega arith
-
-  pub fresh-short : length (fileOf fresh) ≤ outRoom
-  fresh-short = file-short fresh (k .fresh-form) few-fresh
-
-  pub fresh-room : (buffer : List ℕ) → length buffer ≡ outRoom → ViewRoom E L w len buffer
-  fresh-room buffer e = let s = fresh-short in record { inside = inside; bounds = k .shallow; room = omega arith }
+  pub shown-words : ShownWords E w len
+  shown-words = let f = k .goes .few in let r = k .work-room in (omega arith, k .shallow)
 
   -- what was shown, whatever the tree is called
   fresh-is : (X : Transformation) → readProgram E ≡ gives X → (o : Shown) → showing (oneMaster L) X ≡ gives o → fresh ≡ view (oneMaster L) (o .value)
@@ -83,91 +64,63 @@ module _ {E : List Entry} {ends : List ℕ} {L : List Line} {len : ℕ} {w out :
       let g = k .goes .shows X (length E) (program-placed E X read .stands) in
       ap (view (oneMaster L)) (g .2) ∙ ap (λ (a : Shown). view (oneMaster L) (a .value)) (gives-inj _ _ (sym (g .1) ∙ shows))
 
-  -- ## The fresh file, scanned
+  -- ## The view judged beside the fresh one
 
-  module _ {buffer buffer′ : List ℕ} {end : ℕ} (wrote : WroteLines fresh buffer buffer′ end) (long : length buffer ≡ outRoom) where
-    abbrev file : List ℕ
-    file = take (end - 0) buffer′
+  module _ (edited places : List ℕ) (t : Step) (judged : ViewJudged fresh edited places t) where
+    view-refuses : (r : Reply) → t ≡ Refused r → ComparedBack E L edited out out r
+    view-refuses r q X read o shows =
+        refused-settles _ out r (refused-first _ _ r
+        (subst (λ (ls : List Line). Refuses (judgedView ls edited) r) (fresh-is X read o shows) (subst (ViewJudged fresh edited places) q judged)))
 
-    file-is : file ≡ fileOf fresh
-    file-is =
-        let s = fresh-short in
-        ap (λ (b : List ℕ). take (end - 0) b) (wrote .lines) ∙ ap (λ (n : ℕ). take n (putAt buffer 0 (fileOf fresh))) (sub-zero end ∙ wrote .behind)
-        ∙ put-part buffer 0 (fileOf fresh) (omega arith)
+    module _ (v : ℕ) (q : t ≡ Goes v) where
+      goes : ViewGoes fresh edited places v
+      goes = subst (ViewJudged fresh edited places) q judged
 
-    pub end-inside : end ≤ outRoom
-    end-inside = let s = fresh-short in let e = wrote .behind in omega arith
+      few-edited : v ≤ 128
+      few-edited = goes .few
 
-    scan-is : scan View file ≡ Lines (length fresh)
-    scan-is = ap (scan View) file-is ∙ fresh-scan fresh (k .fresh-form) few-fresh
+      abbrev es : List Line
+      es = linesOf edited (take (v - 0) places)
 
-    module _ {before noted : List ℕ} {s : Scan} (x : Scanned View file before noted s) where
-      pub never-wrong : (line : ℕ) → s ≡ Wrong line → ⊥
-      never-wrong line e = let a = sym e ∙ x .answer ∙ scan-is in let z : _≡_ {A = ℕ} 0 1 = cc in absurd (omega arith)
+      edited-are : nodes edited ≡ es
+      edited-are = goes .lines ∙ ap (λ (n : ℕ). linesOf edited (take n places)) (sym (sub-zero v))
 
-      module _ (m : ℕ) (e : s ≡ Lines m) where
-        pub few-scanned : m ≤ 128
-        few-scanned = let a : Lines m ≡ Lines (length fresh) = sym e ∙ x .answer ∙ scan-is in let b : m ≡ length fresh = cc in let f = few-fresh in omega arith
+      passed : ViewPassed fresh edited es
+      passed = subst (ViewPassed fresh edited) edited-are (view-passed fresh edited (nodes edited) (goes .judged))
 
-        scanned-lines : linesOf file (take (m - 0) noted) ≡ fresh
-        scanned-lines =
-            ap (λ (n : ℕ). linesOf file (take n noted)) (sub-zero m) ∙ sym (said-lines nodes nodeAt reads-view (scanned-whole x m e)) ∙ ap nodes file-is
-            ∙ nodes-written fresh (k .fresh-form)
+      as-many : length es ≡ length fresh
+      unfolding firstDifference
+      as-many = same-count 0 es fresh (passed .same)
 
-        -- ## The view judged beside it
+      -- a word a line
+      count : length es ≡ len
+      count = as-many ∙ view-long E L w len (shown-words .0)
 
-        module _ (edited places : List ℕ) (t : Step) (judged : ViewJudged (linesOf file (take (m - 0) noted)) edited places t) where
-          view-refuses : (r : Reply) → t ≡ Refused r → ComparedBack E L edited out out r
-          view-refuses r q X read o shows =
-              refused-settles _ out r (refused-first _ _ r
-              (subst (λ (ls : List Line). Refuses (judgedView ls edited) r) (scanned-lines ∙ fresh-is X read o shows)
-              (subst (ViewJudged (linesOf file (take (m - 0) noted)) edited places) q judged)))
+      carriable : Carriable E ends L es w out
+      carriable =
+          record {
+            runnable = k .runnable;
+            few = passed .holds .few;
+            foot = k .goes .foot;
+            shows = λ X q h.
+                let g = k .goes .shows X q h in
+                (g .0, g .1, sym (as-many ∙ length-view L (valueAt (madeBy E) w 128 len) ∙ ap length (g .2)), ap (viewLines E L w) count ∙ ap (view (oneMaster L)) (g .2));
+            room = k .room;
+            work-room = k .work-room;
+            short = λ ls h.
+                let X = k .runnable .tree in
+                let o = k .goes .shows X (length E) (program-placed E X (k .runnable .read) .stands) in
+                let r = returned-writable L (k .form) (k .runnable .few-lines) (k .bounds) X (o .0) (o .1) es (passed .holds .form)
+                (subst (λ (fs : List Line). firstDifference es fs ≡ Fine) (fresh-is X (k .runnable .read) (o .0) (o .1)) (passed .same)) ls h in
+                let l = r .long in
+                let f = k .runnable .few-lines in
+                file-short ls (r .form) (omega arith);
+          }
 
-          module _ (v : ℕ) (q : t ≡ Goes v) where
-            goes : ViewGoes fresh edited places v
-            goes = subst (λ (ls : List Line). ViewGoes ls edited places v) scanned-lines (subst (ViewJudged (linesOf file (take (m - 0) noted)) edited places) q judged)
+      carried-compares : (out′ : List ℕ) (r : Reply) → CarriedBack E L es out out′ r → ComparedBack E L edited out out′ r
+      carried-compares out′ r h X read o shows =
+          passed-settles _ _ es
+          (subst (λ (ls : List Line). judgedView ls edited ≡ gives es) (fresh-is X read o shows) (goes .judged ∙ ap gives edited-are)) out out′ r (h X read)
 
-            few-edited : v ≤ 128
-            few-edited = goes .few
-
-            abbrev es : List Line
-            es = linesOf edited (take (v - 0) places)
-
-            edited-are : nodes edited ≡ es
-            edited-are = goes .lines ∙ ap (λ (n : ℕ). linesOf edited (take n places)) (sym (sub-zero v))
-
-            passed : ViewPassed fresh edited es
-            passed = subst (ViewPassed fresh edited) edited-are (view-passed fresh edited (nodes edited) (goes .judged))
-
-            as-many : length es ≡ length fresh
-            unfolding firstDifference
-            as-many = same-count 0 es fresh (passed .same)
-
-            carriable : Carriable E ends L (linesOf file (take (m - 0) noted)) es w out
-            carriable =
-                record {
-                  runnable = k .runnable;
-                  few = passed .holds .few;
-                  foot = k .goes .foot;
-                  shows = λ X q h.
-                      let g = k .goes .shows X q h in
-                      (g .0, g .1, sym (as-many ∙ length-view L (valueAt (madeBy E) w 128 len) ∙ ap length (g .2)), scanned-lines ∙ ap (view (oneMaster L)) (g .2));
-                  room = k .room;
-                  work-room = k .work-room;
-                  short = λ ls h.
-                      let X = k .runnable .tree in
-                      let o = k .goes .shows X (length E) (program-placed E X (k .runnable .read) .stands) in
-                      let r = returned-writable L (k .form) (k .runnable .few-lines) (k .bounds) X (o .0) (o .1) es (passed .holds .form)
-                      (subst (λ (fs : List Line). firstDifference es fs ≡ Fine) (fresh-is X (k .runnable .read) (o .0) (o .1)) (passed .same)) ls h in
-                      let l = r .long in
-                      let f = k .runnable .few-lines in
-                      file-short ls (r .form) (omega arith);
-                }
-
-            carried-compares : (out′ : List ℕ) (r : Reply) → CarriedBack E L es out out′ r → ComparedBack E L edited out out′ r
-            carried-compares out′ r h X read o shows =
-                passed-settles _ _ es
-                (subst (λ (ls : List Line). judgedView ls edited ≡ gives es) (fresh-is X read o shows) (goes .judged ∙ ap gives edited-are)) out out′ r (h X read)
-
-          pub judged-beside : Beside E ends L (linesOf file (take (m - 0) noted)) w out edited places t
-          judged-beside = record { refuses = view-refuses; few = few-edited; carriable = carriable; settles = carried-compares }
+    pub judged-beside : Beside E ends L w out edited places t
+    judged-beside = record { refuses = view-refuses; few = few-edited; carriable = carriable; settles = carried-compares }

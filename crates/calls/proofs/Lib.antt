@@ -1,5 +1,4 @@
 -- What the proofs of the functions share.
-pub mod Judged
 pub mod Steps
 -- Writing: the line of a word, a line with its standing
 pub mod WordLines
@@ -7,6 +6,7 @@ pub mod HandedLines
 -- Scanned files and verdicts: the places that replies name
 pub mod Places
 -- The edited view: its judging, and the words of what its lines bring
+pub mod Differing
 pub mod ViewJudging
 pub mod ViewWords
 -- The master's standings: their clashes

@@ -1,5 +1,5 @@
 -- The source's words one by one, and what the run over them leaves.
-use mathlib.Core.Path.{_≡_, refl, sym, ap, ap₂, subst, _∙_}
+use mathlib.Core.Path.{_≡_, refl, sym, ap, ap₂, _∙_}
 use mathlib.Core.List.{List, [], _∷_}
 use Prim.Native.Nat.{ℕ, zero, suc, _+_, _*_, _≤_, _<_}
 use native.Mathlib.Nat.{zero-add}
@@ -25,12 +25,11 @@ use Rattle.runs.specs.Engine.SlotWords.{noSlots}
 use Rattle.runs.specs.Engine.Runs.{madeBy, lookupOf, slotsAt, Space, ShownBy}
 use Rattle.runs.specs.Theorems.WholePrograms.{program-placed}
 use Rattle.lines.specs.Verdicts.{reply}
-use Rattle.lines.specs.Theorems.PutAt.{Putting, putting-goes-on, put-part}
+use Rattle.lines.specs.Theorems.PutAt.{Putting, putting-front, put-part}
 use Rattle.lines.specs.Engine.Starts.{nodeAt, linesOf}
 use Rattle.runs.specs.Theorems.RunAnswers.{got, halted}
 use Rattle.calls.specs.Judging.{ran}
-use Rattle.calls.specs.Outcomes.{workRoom}
-use Rattle.calls.specs.Engine.Parts.{sourceWords, Runnable, RunGoes}
+use Rattle.calls.specs.Engine.Parts.{showRoom, sourceWords, Runnable, RunGoes}
 use Rattle.calls.proofs.Grounded.{no-slots-bound, same-showing}
 
 -- ## The words
@@ -61,12 +60,11 @@ module _ (s starts w₀ : List ℕ) (fits : length starts ≤ length w₀) where
       let here = line-at (nodeAt s) starts i noLine h in
       let word : depth * 0x10000 + i ≡ getD words i 0 =
       ap₂ (λ (x y : ℕ). x * 0x10000 + y) (d ∙ ap (λ (l : Line). l .depth) (sym here)) (sym (zero-add i)) ∙ sym (source-at 0 (linesOf s starts) i (omega arith)) in
-      subst (λ (k : ℕ). Putting w₀ 0 words (length starts) (set w k (depth * 0x10000 + i)) (i + 1)) (zero-add i)
-      (putting-goes-on w₀ 0 words (length starts) (words-long s starts) (omega arith) p h word)
+      putting-front w₀ 0 words (length starts) (words-long s starts) (omega arith) refl p h word
 
 -- ## The run
 
-pub run-space : (w : List ℕ) (len : ℕ) → len ≤ 128 → workRoom ≤ length w → Space w noSlots 0 len 128 12
+pub run-space : (w : List ℕ) (len : ℕ) → len ≤ 128 → showRoom ≤ length w → Space w noSlots 0 len 128 12
 run-space w len short room = record { below = omega arith; short = short; enough = omega arith; low = omega arith; bound = no-slots-bound 128 }
 
 pub loaded-foot : (w : List ℕ) (L : List Line) → length L ≤ length w → {w₁ : List ℕ} → w₁ ≡ putAt w 0 (sourceWords 0 L) → part w₁ 0 (length L) ≡ sourceWords 0 L

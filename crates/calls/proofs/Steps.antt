@@ -28,13 +28,13 @@ use Rattle.runs.specs.Showing.{Shown}
 use Rattle.runs.specs.Grounds.{oneMaster, showing, view}
 use Rattle.runs.specs.Engine.Runs.{Ended, madeBy}
 use Rattle.calls.specs.Judging.{Judged, judgedProgram, judgedMaster, judgedView, judgedStandings, ran}
-use Rattle.calls.specs.Outcomes.{settled, outRoom, workRoom}
+use Rattle.calls.specs.Outcomes.{settled, outRoom}
 use Rattle.calls.specs.declared.reply.Reply.{Reply}
 use Rattle.calls.specs.declared.reply.Step.{Step}
 use Rattle.calls.specs.declared.reply.Step.the-variants.{Goes, Refused}
 use Rattle.calls.specs.declared.reach.Reached.{Reached}
 use Rattle.calls.specs.declared.reach.Reached.the-variants as reached
-use Rattle.calls.specs.Engine.Parts.{replied, Refuses, Settles, ProgramGoes, ProgramJudged, MasterGoes, MasterJudged}
+use Rattle.calls.specs.Engine.Parts.{showRoom, putBackRoom, replied, Refuses, Settles, ProgramGoes, ProgramJudged, MasterGoes, MasterJudged}
 use Rattle.calls.specs.Engine.Parts.{Runnable, RunGoes, RanBy, afterRun, RunReached, ReachedBy, viewLines, ViewRoom, Comparable, ComparedBack}
 use Rattle.calls.specs.Theorems.Judged.{MasterPassed, master-passed}
 use Rattle.calls.specs.Theorems.FreshLines.{fresh-writable, fresh-few, length-view}
@@ -187,7 +187,7 @@ module _ {program starts ends master places : List ℕ} {putting : Bool} {e n : 
         let good = master-shows-good (L m) (few-lines m) (bounds m) (p .tree) o shows in
         subst (λ v. withinBounds v ≡ true) (sym shown-value) (within (o .value) (good .few) (good .low))
 
-    pub fresh-form : AllWritable (viewLines E (L m) w len)
+    fresh-form : AllWritable (viewLines E (L m) w len)
     fresh-form =
         subst (λ v. AllWritable (view (oneMaster (L m)) v)) (sym shown-value)
         (fresh-writable program (p .tree) (p .judged) (L m) (form m) (few-lines m) (bounds m) o shows)
@@ -197,12 +197,12 @@ module _ {program starts ends master places : List ℕ} {putting : Bool} {e n : 
         file-short (viewLines E (L m) w len) fresh-form
         (subst (λ k. k ≤ 128) (sym (length-view (L m) (valueAt (madeBy E) w 128 len) ∙ ap length shown-value)) (fresh-few (L m) (few-lines m) (bounds m) (p .tree) o shows))
 
-    pub view-room : (out : List ℕ) → outRoom ≤ length out → workRoom ≤ length w → ViewRoom E (L m) w len out
-    view-room out a b = let k = g .few in let s = fresh-short in record { inside = omega arith; bounds = shown-within; room = omega arith }
+    pub view-room : (out : List ℕ) → outRoom ≤ length out → showRoom ≤ length w → ViewRoom E (L m) w len out
+    view-room out a b = let k = g .few in let s = fresh-short in record { words = (omega arith, shown-within); room = omega arith }
 
-    pub comparable : (out : List ℕ) → outRoom ≤ length out → workRoom ≤ length w → Comparable E (take (e - 0) ends) (L m) len w out
+    pub comparable : (out : List ℕ) → outRoom ≤ length out → putBackRoom ≤ length w → Comparable E (take (e - 0) ends) (L m) len w out
     comparable out a b =
-        record { runnable = runnable; goes = g; shallow = shown-within; form = form m; bounds = bounds m; fresh-form = fresh-form; room = a; work-room = b }
+        record { runnable = runnable; goes = g; shallow = shown-within; form = form m; bounds = bounds m; room = a; work-room = b }
 
     -- the view's lines are what is shown
     pub shown-settles : (out out′ : List ℕ) (end : ℕ) → WroteLines (viewLines E (L m) w len) out out′ end → (r : Reply) → r ≡ replied 0 0 end

@@ -1,12 +1,15 @@
--- Steps of the loops over a view's lines: the first line with a text, and the word of what a line brings.
+-- Steps of the loops over a view's lines: the sums of their texts, the first line with a text, and the word of what a line brings.
 use mathlib.Core.Path.{_≡_, sym, ap, ap₂, _∙_}
 use mathlib.Core.Bool.{true, false}
-use mathlib.Core.List.{List, _∷_}
-use Prim.Native.Nat.{ℕ, _+_, _<_}
+use mathlib.Core.List.{List, _∷_, map}
+use Prim.Native.Nat.{ℕ, _+_, _≤_, _<_}
 use native.Mathlib.Numerals.{add-one}
 use native.Mathlib.Omega.{arith}
 use borrow.Author.Tests.{eq-eqb, ne-eqb}
 use lib.ListN.{length, getD, drop, length-map}
+use lib.Seq.{getD-take}
+use Rattle.lines.specs.Writing.{putAt}
+use Rattle.lines.specs.Theorems.PutAt.{length-put, put-front}
 use Rattle.lines.specs.Texts.{sameText}
 use Rattle.lines.specs.Nodes.{Line, noLine, lineAt}
 use Rattle.lines.specs.Views.{countedLine, countedLines}
@@ -14,58 +17,84 @@ use Rattle.lines.specs.Theorems.CountedMarks.{counted-length, counted-at}
 use Rattle.lines.specs.Theorems.Lists.{map-at}
 use Rattle.lines.specs.Theorems.LinesAt.{nodes-one, line-at, text-at}
 use Rattle.lines.specs.Engine.Starts.{textAt, nodeAt, linesOf}
-use Rattle.lines.specs.Theorems.SameTexts.{sameText-refl}
-use Rattle.calls.specs.Engine.Parts.{firstWith, broughtWord, broughtWords}
+use Rattle.lines.specs.Engine.Sums.{textSum}
+use Rattle.lines.specs.Theorems.SameTexts.{sameText-refl, unlike-texts}
+use Rattle.calls.specs.Engine.Parts.{Summed, firstWith, broughtWord, broughtWords}
 
 -- ## The first line with a text
 
 module _ (text : List ℕ) (k : ℕ) (l : Line) (ls : List Line) where
-  pub with-here : sameText (l .text) text ≡ true → firstWith text k (l ∷ ls) ≡ k
+  with-here : sameText (l .text) text ≡ true → firstWith text k (l ∷ ls) ≡ k
   unfolding firstWith
   with-here e = rw e
 
-  pub with-later : sameText (l .text) text ≡ false → firstWith text k (l ∷ ls) ≡ firstWith text (k + 1) ls
+  with-later : sameText (l .text) text ≡ false → firstWith text k (l ∷ ls) ≡ firstWith text (k + 1) ls
   unfolding firstWith
   with-later e = rw (e, add-one)
 
 -- the text of line i, looked for from line j on
 module _ (view lines : List ℕ) (i : ℕ) (inside : i < length lines) (j : ℕ) where
-  abbrev text : List ℕ
-  text = (getD (linesOf view lines) i noLine) .text
+  abbrev es : List Line
+  es = linesOf view lines
 
-  abbrev pub fromHere : ℕ
-  fromHere = firstWith text j (linesOf view (drop j lines))
+  abbrev fromHere : ℕ
+  fromHere = firstWith (lineAt es i .text) j (linesOf view (drop j lines))
 
-  own : nodeAt view (getD lines i 0) .text ≡ text
-  own = ap (λ (l : Line). l .text) (sym (line-at (nodeAt view) lines i noLine inside))
+  module _ (h : j < length lines) where
+    here : linesOf view (drop j lines) ≡ lineAt es j ∷ linesOf view (drop (j + 1) lines)
+    here = nodes-one (nodeAt view) lines j h ∙ ap (λ (l : Line). l ∷ linesOf view (drop (j + 1) lines)) (sym (line-at (nodeAt view) lines j noLine h))
 
-  -- what the code compares
-  compared : {a b : ℕ} → a ≡ getD lines j 0 + 10 → b ≡ getD lines i 0 + 10
-      → sameText (textAt view a) (textAt view b) ≡ sameText (nodeAt view (getD lines j 0) .text) text
-  compared {a} {b} p q = ap₂ sameText (text-at view (getD lines j 0) p) (text-at view (getD lines i 0) q ∙ own)
+    pub found-here : sameText (lineAt es j .text) (lineAt es i .text) ≡ true → fromHere ≡ j
+    found-here e = rw here (with-here (lineAt es i .text) j _ _ e)
 
-  pub found-here : {a b : ℕ} → j < length lines → a ≡ getD lines j 0 + 10 → b ≡ getD lines i 0 + 10
-      → sameText (textAt view a) (textAt view b) ≡ true → fromHere ≡ j
-  found-here h p q e = rw (nodes-one (nodeAt view) lines j h) (with-here text j _ _ (sym (compared p q) ∙ e))
+    pub found-later : sameText (lineAt es j .text) (lineAt es i .text) ≡ false → fromHere ≡ firstWith (lineAt es i .text) (j + 1) (linesOf view (drop (j + 1) lines))
+    found-later e = rw here (with-later (lineAt es i .text) j _ _ e)
 
-  pub found-later : {a b : ℕ} → j < length lines → a ≡ getD lines j 0 + 10 → b ≡ getD lines i 0 + 10 → sameText (textAt view a) (textAt view b) ≡ false
-      → fromHere ≡ firstWith text (j + 1) (linesOf view (drop (j + 1) lines))
-  found-later h p q e = rw (nodes-one (nodeAt view) lines j h) (with-later text j _ _ (sym (compared p q) ∙ e))
+    -- texts with different sums are not the same
+    pub sums-differ : (sums : List ℕ) → Summed (linesOf view lines) sums → (getD sums j 0 ≡ getD sums i 0 → ⊥) → sameText (lineAt es j .text) (lineAt es i .text) ≡ false
+    sums-differ sums s n =
+        let long = length-map lines (nodeAt view) in
+        unlike-texts _ _ (λ e. n (s .1 j (omega arith) ∙ (ap textSum e ∙ sym (s .1 i (omega arith)))))
+
+    -- what the code compares
+    pub compared : {a b : ℕ} → a ≡ getD lines j 0 + 10 → b ≡ getD lines i 0 + 10 → sameText (textAt view a) (textAt view b) ≡ sameText (lineAt es j .text) (lineAt es i .text)
+    compared p q = ap₂ sameText (text-at view (getD lines j 0) p ∙ own j h) (text-at view (getD lines i 0) q ∙ own i inside)
+      where
+        own : (k : ℕ) → k < length lines → nodeAt view (getD lines k 0) .text ≡ lineAt es k .text
+        own k g = ap (λ (l : Line). l .text) (sym (line-at (nodeAt view) lines k noLine g))
 
   -- at the latest, line i has it
   pub found-itself : j ≡ i → fromHere ≡ i
-  found-itself e =
-      rw (nodes-one (nodeAt view) lines j (omega arith))
-      (with-here text j _ _ (ap (λ (t : List ℕ). sameText t text) (ap (λ (k : ℕ). nodeAt view (getD lines k 0) .text) e ∙ own) ∙ sameText-refl text) ∙ e)
+  found-itself e = found-here (omega arith) (ap (λ (k : ℕ). sameText (lineAt es k .text) (lineAt es i .text)) e ∙ sameText-refl (lineAt es i .text)) ∙ e
+
+-- the sums, put at the front
+module _ (view lines : List ℕ) where
+  abbrev pub newSums : List ℕ
+  newSums = map (λ (p : ℕ). textSum (nodeAt view p .text)) lines
+
+  pub sums-long : length newSums ≡ length lines
+  sums-long = length-map lines _
+
+  pub sum-at : (k : ℕ) → k < length lines → getD newSums k 0 ≡ textSum (nodeAt view (getD lines k 0) .text)
+  sum-at k h = line-at (λ (p : ℕ). textSum (nodeAt view p .text)) lines k 0 h
+
+  pub summed : (sums : List ℕ) → length lines ≤ length sums → {left : List ℕ} → left ≡ putAt sums 0 newSums → Summed (linesOf view lines) left
+  summed sums room e =
+      let many = length-map lines (nodeAt view) in
+      let long = sums-long in
+      rw e (
+        omega (arith, length-put sums 0 newSums (omega arith)),
+        λ k h. sym (getD-take (length newSums) (putAt sums 0 newSums) k 0 (omega arith))
+            ∙ (ap (λ (l : List ℕ). getD l k 0) (put-front sums newSums)
+            ∙ (sum-at k (omega arith) ∙ ap (λ (l : Line). textSum (l .text)) (sym (line-at (nodeAt view) lines k noLine (omega arith))))),
+      )
 
 -- ## The word of a line
 
 -- the mark that the code reads
-pub mark-read : (view lines fresh starts : List ℕ) (i : ℕ) → i < length lines → i < length starts
-    → {m : ℕ} → m ≡ countedLine (nodeAt fresh (getD starts i 0)) (nodeAt view (getD lines i 0)) .mark
-    → m ≡ countedLine (lineAt (linesOf fresh starts) i) (lineAt (linesOf view lines) i) .mark
-mark-read view lines fresh starts i h k e =
-    e ∙ ap₂ (λ (f v : Line). countedLine f v .mark) (sym (line-at (nodeAt fresh) starts i noLine k)) (sym (line-at (nodeAt view) lines i noLine h))
+pub mark-read : (view lines : List ℕ) (fresh : Line) (i : ℕ) → i < length lines
+    → {m : ℕ} → m ≡ countedLine fresh (nodeAt view (getD lines i 0)) .mark → m ≡ countedLine fresh (lineAt (linesOf view lines) i) .mark
+mark-read view lines fresh i h e = e ∙ ap (λ (v : Line). countedLine fresh v .mark) (sym (line-at (nodeAt view) lines i noLine h))
 
 module _ (es : List Line) (l : Line) where
   pub word-changed : {n : ℕ} → l .mark ≡ 1 → n ≡ firstWith (l .text) 0 es → 4 + n ≡ broughtWord es l
@@ -85,15 +114,13 @@ module _ (es : List Line) (l : Line) where
 pub length-brought : (fs es : List Line) → length (broughtWords fs es) ≡ length es
 length-brought fs es = length-map (countedLines fs es) (broughtWord es) ∙ counted-length fs es
 
-module _ (view lines fresh starts : List ℕ) where
-  pub words-long : length (broughtWords (linesOf fresh starts) (linesOf view lines)) ≡ length lines
-  words-long = length-brought (linesOf fresh starts) (linesOf view lines) ∙ length-map lines (nodeAt view)
+module _ (view lines : List ℕ) (fs : List Line) where
+  pub words-long : length (broughtWords fs (linesOf view lines)) ≡ length lines
+  words-long = length-brought fs (linesOf view lines) ∙ length-map lines (nodeAt view)
 
-  pub word-at : (i : ℕ) → i < length lines → i < length starts
-      → getD (broughtWords (linesOf fresh starts) (linesOf view lines)) i 0
-      ≡ broughtWord (linesOf view lines) (countedLine (lineAt (linesOf fresh starts) i) (lineAt (linesOf view lines) i))
+  pub word-at : (i : ℕ) → i < length lines → i < length fs
+      → getD (broughtWords fs (linesOf view lines)) i 0 ≡ broughtWord (linesOf view lines) (countedLine (lineAt fs i) (lineAt (linesOf view lines) i))
   word-at i h k =
       let long = length-map lines (nodeAt view) in
-      map-at (broughtWord (linesOf view lines)) (countedLines (linesOf fresh starts) (linesOf view lines)) i 0 noLine
-      (omega (arith, counted-length (linesOf fresh starts) (linesOf view lines)))
-      ∙ ap (broughtWord (linesOf view lines)) (counted-at (linesOf fresh starts) (linesOf view lines) i (omega (arith, length-map starts (nodeAt fresh))) (omega arith))
+      map-at (broughtWord (linesOf view lines)) (countedLines fs (linesOf view lines)) i 0 noLine (omega (arith, counted-length fs (linesOf view lines)))
+      ∙ ap (broughtWord (linesOf view lines)) (counted-at fs (linesOf view lines) i k (omega arith))

@@ -4,6 +4,8 @@ pub mod Judged
 pub mod Replies
 pub mod Origins
 pub mod FreshLines
+-- From a judging that settles to a call's outcome
+pub mod Settled
 -- The theorems on bytes
 pub mod Returned
 pub mod FreshView

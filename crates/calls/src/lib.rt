@@ -1,4 +1,5 @@
 // The calls: showing a view, putting it back and sweeping a master, on the bytes of files, with the twelve replies.
+pub mod beside;
 pub mod files;
 pub mod put_back;
 pub mod reach;

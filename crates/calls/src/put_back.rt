@@ -13,11 +13,7 @@ use crate::room::SHOWN;
 use crate::room::WORK_ROOM;
 use crate::view_in::bring_view;
 use crate::view_in::judge_view;
-use crate::view_out::write_view;
 use crate::write_master::write_master;
-use lines::scan::File;
-use lines::scan::Scan;
-use lines::scan::scan_lines;
 use lines::verdict::Verdict;
 use runs::at::root;
 use runs::put::MARKS;
@@ -33,8 +29,8 @@ ghost use Rattle.lines.specs.Engine.Starts.{linesOf, entriesOf};
 ghost use Rattle.values.specs.Standings.{isClash};
 ghost use Rattle.values.specs.Engine.Words.{standingsAt};
 ghost use Rattle.calls.specs.Judging.{judgedPutBack};
-ghost use Rattle.calls.specs.Outcomes.{outRoom, workRoom, outcome, putBackCall};
-ghost use Rattle.calls.specs.Engine.Parts.{Settles, Carriable, CarriedBack, Comparable, ComparedBack};
+ghost use Rattle.calls.specs.Outcomes.{outRoom, outcome, putBackCall};
+ghost use Rattle.calls.specs.Engine.Parts.{putBackRoom, Settles, Carriable, CarriedBack, Comparable, ComparedBack};
 
 // The first clash among the standings at HANDED.
 fn first_clash(work: &[u32], len: usize) -> Verdict
@@ -60,17 +56,15 @@ fn carry(
     nodes: &[u16],
     view: &[u8],
     lines: &[u16],
-    fresh: &[u8],
-    fresh_lines: &[u16],
     out: &mut [u8],
     work: &mut [u32],
 ) -> Reply
     requires { ⌜ Carriable (entriesOf (now program) (now entries)) (now ends) (linesOf (now master) (now nodes))
-        (linesOf (now fresh) (now «fresh_lines»)) (linesOf (now view) (now lines)) (now work) (now out) ⌝ }
+        (linesOf (now view) (now lines)) (now work) (now out) ⌝ }
     ensures { λ r. ⌜ CarriedBack (entriesOf (now (program .entry)) (now (entries .entry))) (linesOf (now (master .entry)) (now (nodes .entry)))
         (linesOf (now (view .entry)) (now (lines .entry))) (now (out .entry)) (now (out .exit)) r ⌝ }
 {
-    bring_view(view, lines, fresh, fresh_lines, work);
+    bring_view(program, entries, master, nodes, view, lines, work);
     let mut marks = [0u32; MARKS];
     let at = root(nodes.len(), HANDED, SHOWN, lines.len());
     put(program, entries, ends, master, nodes, work, &mut marks, at);
@@ -97,44 +91,33 @@ fn compared(
     ensures { λ r. ⌜ ComparedBack (entriesOf (now (program .entry)) (now (entries .entry))) (linesOf (now (master .entry)) (now (nodes .entry)))
         (now (view .entry)) (now (out .entry)) (now (out .exit)) r ⌝ }
 {
-    let mut fresh = [0u8; OUT_ROOM];
-    let end = write_view(program, entries, master, nodes, work, len, &mut fresh);
-    let mut fresh_lines = [0u16; LINES];
-    let scanned = scan_lines(File::View, &fresh[0..end], &mut fresh_lines);
-    match scanned {
-        Scan::Wrong(line) => refuse(8, line),
-        Scan::Lines(m) => {
-            let mut lines = [0u16; LINES];
-            let view_step = judge_view(view, &mut lines, &fresh[0..end], &fresh_lines[0..m]);
-            match view_step {
-                Step::Refused(reply) => reply,
-                Step::Goes(v) => carry(
-                    program,
-                    entries,
-                    ends,
-                    master,
-                    nodes,
-                    view,
-                    &lines[0..v],
-                    &fresh[0..end],
-                    &fresh_lines[0..m],
-                    out,
-                    work,
-                ),
-            }
-        }
+    let mut lines = [0u16; LINES];
+    let view_step = judge_view(program, entries, master, nodes, work, len, view, &mut lines);
+    match view_step {
+        Step::Refused(reply) => reply,
+        Step::Goes(v) => carry(
+            program,
+            entries,
+            ends,
+            master,
+            nodes,
+            view,
+            &lines[0..v],
+            out,
+            work,
+        ),
     }
 }
 
-// What is judged once there is room.
-fn judged_put_back(
+// What is judged once there is room; public, since a C form brings a work slice that suffices.
+pub fn judged_put_back(
     master: &[u8],
     program: &[u8],
     view: &[u8],
     out: &mut [u8],
     work: &mut [u32],
 ) -> Reply
-    requires { ⌜ (outRoom ≤ length (now out)) × (workRoom ≤ length (now work)) ⌝ }
+    requires { ⌜ (outRoom ≤ length (now out)) × (putBackRoom ≤ length (now work)) ⌝ }
     ensures { λ r. ⌜ Settles (judgedPutBack (now (master .entry)) (now (program .entry)) (now (view .entry))) (now (out .entry)) (now (out .exit)) r ⌝ }
 {
     let mut entries = [0u16; LINES];

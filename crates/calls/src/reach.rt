@@ -6,8 +6,7 @@ use crate::reply::Step;
 use crate::run_program::run_program;
 ghost use Prim.Native.Nat.{_≤_};
 ghost use lib.ListN.{length};
-ghost use Rattle.calls.specs.Outcomes.{workRoom};
-ghost use Rattle.calls.specs.Engine.Parts.{ReachedBy};
+ghost use Rattle.calls.specs.Engine.Parts.{showRoom, ReachedBy};
 
 // How many entries, master nodes and shown nodes there are; or the refusal.
 pub enum Reached {
@@ -26,7 +25,7 @@ pub fn reach(
     work: &mut [u32],
 ) -> Reached
     requires { ⌜ (128 ≤ length (now entries)) × (96 ≤ length (now ends)) × (128 ≤ length (now nodes)) ⌝ }
-    requires { ⌜ workRoom ≤ length (now work) ⌝ }
+    requires { ⌜ showRoom ≤ length (now work) ⌝ }
     ensures { λ r. ⌜ ReachedBy putting (now (master .entry)) (now (program .entry)) (now (entries .exit)) (now (ends .exit)) (now (nodes .exit)) (now (work .exit)) r ⌝ }
 {
     let program_step = judge_program(program, entries, ends);

@@ -15,8 +15,7 @@ ghost use lib.ListN.{length};
 ghost use Rattle.lines.specs.Writing.{putAt};
 ghost use Rattle.lines.specs.Engine.Starts.{linesOf, entriesOf};
 ghost use Rattle.runs.specs.Results.{stopNumber, stopEntry};
-ghost use Rattle.calls.specs.Outcomes.{workRoom};
-ghost use Rattle.calls.specs.Engine.Parts.{replied, sourceWords, Runnable, RanBy};
+ghost use Rattle.calls.specs.Engine.Parts.{showRoom, replied, sourceWords, Runnable, RanBy};
 
 // Each master node as a word, at the foot of the work slice.
 fn load(master: &[u8], nodes: &[u16], work: &mut [u32])
@@ -49,7 +48,7 @@ pub fn run_program(
     work: &mut [u32],
 ) -> Step
     requires { ⌜ Runnable (entriesOf (now program) (now entries)) (now ends) (linesOf (now master) (now nodes)) ⌝ }
-    requires { ⌜ workRoom ≤ length (now work) ⌝ }
+    requires { ⌜ showRoom ≤ length (now work) ⌝ }
     ensures { λ r. ⌜ RanBy (entriesOf (now (program .entry)) (now (entries .entry))) (linesOf (now (master .entry)) (now (nodes .entry))) (now (work .exit)) r ⌝ }
 {
     load(master, nodes, work);

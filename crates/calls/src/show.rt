@@ -14,12 +14,12 @@ ghost use mathlib.Core.Path.{_≡_};
 ghost use Prim.Native.Nat.{_≤_};
 ghost use lib.ListN.{length};
 ghost use Rattle.calls.specs.Judging.{judgedShow};
-ghost use Rattle.calls.specs.Outcomes.{outRoom, workRoom, outcome, showCall};
-ghost use Rattle.calls.specs.Engine.Parts.{Settles};
+ghost use Rattle.calls.specs.Outcomes.{outRoom, outcome, showCall};
+ghost use Rattle.calls.specs.Engine.Parts.{showRoom, Settles};
 
-// What is judged once there is room.
-fn judged_show(master: &[u8], program: &[u8], out: &mut [u8], work: &mut [u32]) -> Reply
-    requires { ⌜ (outRoom ≤ length (now out)) × (workRoom ≤ length (now work)) ⌝ }
+// What is judged once there is room; public, since a C form brings a work slice that suffices.
+pub fn judged_show(master: &[u8], program: &[u8], out: &mut [u8], work: &mut [u32]) -> Reply
+    requires { ⌜ (outRoom ≤ length (now out)) × (showRoom ≤ length (now work)) ⌝ }
     ensures { λ r. ⌜ Settles (judgedShow (now (master .entry)) (now (program .entry))) (now (out .entry)) (now (out .exit)) r ⌝ }
 {
     let mut entries = [0u16; LINES];

@@ -19,7 +19,7 @@ ghost use Rattle.lines.specs.Engine.Writes.{headed, Written, WroteLines};
 ghost use Rattle.calls.specs.Engine.Parts.{wordLine, viewLines, ViewRoom};
 
 // A node's fields: those of the master's line of its number, or of what an entry of the program makes.
-fn head_of(program: &[u8], entries: &[u16], master: &[u8], nodes: &[u16], word: u32) -> Head
+pub fn head_of(program: &[u8], entries: &[u16], master: &[u8], nodes: &[u16], word: u32) -> Head
     requires { ⌜ word / 0x10000 < 256 ⌝ }
     ensures { λ r. ⌜ (let line = wordLine (entriesOf (now (program .entry)) (now (entries .entry))) (linesOf (now (master .entry)) (now (nodes .entry))) word in
         headed r (line .text) ≡ line) ⌝ }

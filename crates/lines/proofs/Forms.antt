@@ -1,31 +1,53 @@
--- Steps of the loops that judge one line.
-use mathlib.Core.Path.{_≡_}
+-- What the tests of one line's bytes share, and what they say of the line.
+use mathlib.Core.Path.{_≡_, refl, sym, _∙_}
 use mathlib.Core.Bool.{Bool, true, false, _&&_}
-use mathlib.Core.List.{List}
-use Prim.Native.Nat.{ℕ, _+_, _≤_, _<_}
+use mathlib.Core.List.{List, [], _∷_}
+use Prim.Native.Nat.{ℕ, _+_, _*_, _/_, _≤_, _<_}
 use native.Mathlib.Omega.{arith}
-use lib.Dec.{eqb}
-use lib.ListN.{length, getD, drop, drop-of-length-le}
-use Rattle.lines.specs.Hex.{isHex, decode}
-use Rattle.lines.specs.Lines.{pairsThenEnd}
-use Rattle.lines.specs.Nodes.{allOf}
-use Rattle.lines.specs.Theorems.Lists.{drop-one, drop-two}
-use Rattle.lines.specs.Theorems.Pairs.{decode-pair, decode-end}
+use lib.Dec.{leb}
+use lib.ListN.{length, getD, drop}
+use borrow.Author.Tests.{le-leb}
+use Rattle.lines.specs.declared.scan.File.{File}
+use Rattle.lines.specs.declared.scan.File.the-variants.{Program, Master, View}
+use Rattle.lines.specs.Hex.{decode}
+use Rattle.lines.specs.Lines.{pairsThenEnd, isLine}
+use Rattle.lines.specs.Nodes.{allOf, nodeForm, nodeLine}
+use Rattle.lines.specs.Entries.{rows, rowOf, operandForm, entryForm, entryLine}
+use Rattle.lines.specs.Files.{formOf}
+use Rattle.lines.specs.Theorems.Pairs.{length-decode, getD-decode, decode-pair, decode-end}
 use Rattle.lines.specs.Engine.Starts.{pairAt}
 
--- the rest of a line: its last byte, a pair more, and nothing
-module _ (s : List ℕ) (i : ℕ) where
-  pub pairs-last : i + 1 ≡ length s → pairsThenEnd (drop i s) ≡ eqb (getD s i 0) 0x0A
-  unfolding pairsThenEnd
-  pairs-last h = rw (drop-one s i 0 (omega arith), drop-of-length-le s {i = i + 1} (omega arith))
+-- a line of whole pairs and 0A has the form if its bytes have it: no byte at all is no form
+fields-decide : (form : List ℕ → Bool) → form [] ≡ false → (c : List ℕ) → pairsThenEnd c ≡ true → (isLine c && form (decode c)) ≡ form (decode c)
+unfolding isLine
+fields-decide form none c e = rw e (go (decode c))
+  where
+    go : (b : List ℕ) → (leb 1 (length b) && form b) ≡ form b
+    go [] = sym none
+    go (x ∷ b) = rw (le-leb 1 (length (x ∷ b)) (omega arith))
 
-  pub pairs-two : i + 1 < length s → pairsThenEnd (drop i s) ≡ (isHex (getD s i 0) && (isHex (getD s (i + 1) 0) && pairsThenEnd (drop (i + 2) s)))
-  unfolding pairsThenEnd
-  pairs-two h = rw (drop-two s i 0 h)
+pub node-decides : (c : List ℕ) → pairsThenEnd c ≡ true → nodeLine c ≡ nodeForm (decode c)
+unfolding nodeLine nodeForm
+node-decides c e = fields-decide nodeForm refl c e
 
-  pub pairs-none : length s ≤ i → pairsThenEnd (drop i s) ≡ false
-  unfolding pairsThenEnd
-  pairs-none h = rw (drop-of-length-le s h)
+pub no-entry : entryForm [] ≡ false
+unfolding entryForm rowOf rows operandForm
+no-entry = refl
+
+pub entry-decides : (c : List ℕ) → pairsThenEnd c ≡ true → entryLine c ≡ entryForm (decode c)
+unfolding entryLine
+entry-decides c e = fields-decide entryForm no-entry c e
+
+-- any other line has no form
+pub formless : (file : File) (c : List ℕ) → pairsThenEnd c ≡ false → formOf file c ≡ false
+unfolding formOf entryLine nodeLine isLine
+formless Program c e = rw e
+formless Master c e = rw e
+formless View c e = rw e
+
+-- a pair that was read is the byte of its place
+pub byte-read : (s : List ℕ) (k : ℕ) {b : ℕ} → k < length s / 2 → b ≡ pairAt s (2 * k) → getD (decode s) k 0 ≡ b
+byte-read s k h e = getD-decode s k (omega (arith, length-decode s)) ∙ sym e
 
 -- a test of every byte: a pair more, and nothing
 module _ (f : ℕ → Bool) (s : List ℕ) (i : ℕ) where

@@ -2,5 +2,4 @@
 pub mod Forms
 pub mod Scans
 pub mod Masters
-pub mod Views
 pub mod Writes

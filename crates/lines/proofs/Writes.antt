@@ -25,12 +25,14 @@ put-more l i a b e p q h =
     ∙ (ap (λ (k : ℕ). sets (sets l i (encode a)) k (encode b)) (q ∙ ap (λ (k : ℕ). i + k) (sym (length-encode a)))
     ∙ (sets-append l i (encode a) (encode b) ∙ ap (sets l i) (sym (encode-append a b)))))
 
--- byte j of a text behind those before it
-pub put-next : (l : List ℕ) (i : ℕ) (t : List ℕ) (j : ℕ) {o o′ : List ℕ} → j < length t → o ≡ sets l i (encode (take j t))
-    → (p : ℕ) → p ≡ i + 2 * j → o′ ≡ sets o p (encode (getD t j 0 ∷ [])) → o′ ≡ sets l i (encode (take (j + 1) t))
-put-next l i t j h e p q r =
-    put-more l i (take j t) (getD t j 0 ∷ []) e p (omega (arith, length-take-le j t (omega arith))) r
-    ∙ ap (λ (x : List ℕ). sets l i (encode x)) (sym (rw add-one (take-suc t j 0 h)))
+-- one more behind those that stand from i on
+pub put-next : (l : List ℕ) (i : ℕ) (v : List ℕ) (j : ℕ) {o : List ℕ} {x : ℕ} → j < length v → o ≡ sets l i (take j v) → x ≡ getD v j 0
+    → set o (i + j) x ≡ sets l i (take (j + 1) v)
+put-next l i v j {x = x} h e q =
+    let more : take (j + 1) v ≡ take j v ++ (getD v j 0 ∷ []) = rw add-one (take-suc v j 0 h) in
+    ap (λ (w : List ℕ). set w (i + j) x) e
+    ∙ (ap (λ (k : ℕ). sets (sets l i (take j v)) (i + k) (x ∷ [])) (sym (length-take-le j v (omega arith)))
+    ∙ (sets-append l i (take j v) (x ∷ []) ∙ ap (sets l i) (ap (λ (y : ℕ). take j v ++ (y ∷ [])) q ∙ sym more)))
 
 -- the line's end
 pub put-end : (n : Line) (l : List ℕ) (i : ℕ) {o : List ℕ} → o ≡ sets l i (encode (bytesOf n))

@@ -17,5 +17,6 @@ pub mod CountedMarks
 pub mod FirstFault
 pub mod Places
 pub mod LinesAt
+pub mod Comparing
 pub mod PutAt
 pub mod WritingLines

@@ -1,5 +1,4 @@
-// The form of one line, cut from its file with its 0A.
-use crate::hex::is_hex;
+// The form of one line's bytes. A line is cut from its file with its 0A.
 use crate::hex::pair_at;
 use crate::table::Class;
 use crate::table::Shape;
@@ -7,39 +6,9 @@ use crate::table::class_of;
 use crate::table::row_of;
 ghost use mathlib.Core.Path.{_≡_};
 ghost use Rattle.lines.specs.Hex.{decode};
-ghost use Rattle.lines.specs.Lines.{pairsThenEnd, isLine};
 ghost use Rattle.lines.specs.Texts.{sameText};
-ghost use Rattle.lines.specs.Nodes.{isElement, isTag, isOrder, kindRule, nodeLine};
-ghost use Rattle.lines.specs.Entries.{textForm, operandForm, entryLine};
-
-fn pairs_then_end(c: &[u8]) -> bool
-    ensures { λ r. ⌜ r ≡ pairsThenEnd (now (c .entry)) ⌝ }
-{
-    let mut i: usize = 0;
-    while i < c.len() {
-        if c.len() - i == 1 {
-            return c[i] == 0x0A;
-        }
-        if !is_hex(c[i]) {
-            return false;
-        }
-        if !is_hex(c[i + 1]) {
-            return false;
-        }
-        i += 2;
-    }
-    false
-}
-
-// Pairs, at least one, and 0A.
-fn is_line(c: &[u8]) -> bool
-    ensures { λ r. ⌜ r ≡ isLine (now (c .entry)) ⌝ }
-{
-    if !pairs_then_end(c) {
-        return false;
-    }
-    1 <= c.len() / 2
-}
+ghost use Rattle.lines.specs.Nodes.{isElement, isTag, isOrder, kindRule, nodeForm};
+ghost use Rattle.lines.specs.Entries.{textForm, operandForm, entryForm};
 
 // `d` is a tag's pairs, with the line's 0A or without it.
 fn is_tag(d: &[u8]) -> bool
@@ -117,12 +86,9 @@ fn kind_rule(kind: u8, mark: u8, d: &[u8]) -> bool
     is_order(d)
 }
 
-pub fn node_line(c: &[u8]) -> bool
-    ensures { λ r. ⌜ r ≡ nodeLine (now (c .entry)) ⌝ }
+pub fn node_form(c: &[u8]) -> bool
+    ensures { λ r. ⌜ r ≡ nodeForm (decode (now (c .entry))) ⌝ }
 {
-    if !is_line(c) {
-        return false;
-    }
     let n = c.len() / 2;
     if n < 6 {
         return false;
@@ -169,10 +135,10 @@ fn operand_form(shape: Shape, d: &[u8]) -> bool
     }
 }
 
-pub fn entry_line(c: &[u8]) -> bool
-    ensures { λ r. ⌜ r ≡ entryLine (now (c .entry)) ⌝ }
+pub fn entry_form(c: &[u8]) -> bool
+    ensures { λ r. ⌜ r ≡ entryForm (decode (now (c .entry))) ⌝ }
 {
-    if !is_line(c) {
+    if c.len() < 2 {
         return false;
     }
     let operation = pair_at(c, 0);

@@ -1,11 +1,14 @@
 // One scanner for program, master and view: each line's form, how many there may be, and where each begins.
-use crate::form::entry_line;
-use crate::form::node_line;
+use crate::form::entry_form;
+use crate::form::node_form;
+use crate::hex::is_hex;
 ghost use mathlib.Core.Path.{_≡_};
-ghost use Prim.Native.Nat.{_+_, _≤_};
-ghost use lib.ListN.{drop, length};
+ghost use mathlib.Core.Bool.{true};
+ghost use Prim.Native.Nat.{_≤_};
+ghost use lib.ListN.{length};
+ghost use Rattle.lines.specs.Lines.{pairsThenEnd};
 ghost use Rattle.lines.specs.Files.{formOf, limitOf};
-ghost use Rattle.lines.specs.Engine.Starts.{lineLength, Scanned};
+ghost use Rattle.lines.specs.Engine.Starts.{pairsEnd, Scanned};
 
 pub enum File {
     Program,
@@ -19,13 +22,15 @@ pub enum Scan {
     Wrong(usize),
 }
 
+// The line's pairs and its 0A were looked at when its end was found: its bytes are left.
 fn has_form(file: File, c: &[u8]) -> bool
+    requires { ⌜ pairsThenEnd (now c) ≡ true ⌝ }
     ensures { λ r. ⌜ r ≡ formOf file (now (c .entry)) ⌝ }
 {
     match file {
-        File::Program => entry_line(c),
-        File::Master => node_line(c),
-        File::View => node_line(c),
+        File::Program => entry_form(c),
+        File::Master => node_form(c),
+        File::View => node_form(c),
     }
 }
 
@@ -39,18 +44,27 @@ fn limit_of(file: File) -> usize
     }
 }
 
-// Past the 0A of the line that begins at `at`, or the file's end.
+// Past the line that begins at `at`, if it is whole pairs and 0A; `at` otherwise. This is the scan's only look for digits.
 fn line_end(s: &[u8], at: usize) -> usize
-    ensures { λ r. ⌜ r ≡ at + lineLength (drop at (now (s .entry))) ⌝ }
+    ensures { λ r. ⌜ r ≡ pairsEnd (now (s .entry)) at ⌝ }
 {
     let mut i = at;
     while i < s.len() {
-        if s[i] == 0x0A {
-            return i + 1;
+        if !is_hex(s[i]) {
+            if s[i] == 0x0A {
+                return i + 1;
+            }
+            return at;
         }
-        i += 1;
+        if s.len() - i < 2 {
+            return at;
+        }
+        if !is_hex(s[i + 1]) {
+            return at;
+        }
+        i += 2;
     }
-    i
+    at
 }
 
 pub fn scan_lines(file: File, s: &[u8], starts: &mut [u16]) -> Scan
@@ -65,6 +79,9 @@ pub fn scan_lines(file: File, s: &[u8], starts: &mut [u16]) -> Scan
             return Scan::Wrong(n);
         }
         let end = line_end(s, at);
+        if end == at {
+            return Scan::Wrong(n);
+        }
         if !has_form(file, &s[at..end]) {
             return Scan::Wrong(n);
         }

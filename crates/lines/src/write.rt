@@ -1,6 +1,6 @@
 // Writing a node's line into a slice: what stands before and behind it is kept.
+use crate::hex::digit_at;
 use crate::hex::hex_digit;
-use crate::texts::text_byte;
 use crate::texts::text_len;
 ghost use mathlib.Core.Path.{_≡_};
 ghost use mathlib.Core.List.{[], _∷_};
@@ -28,16 +28,16 @@ pub fn put_byte(out: &mut [u8], pos: usize, b: u8)
     out[pos + 1] = hex_digit(b % 16);
 }
 
+// Digit by digit, as it stands there.
 fn put_text(out: &mut [u8], pos: usize, s: &[u8], at: u32)
     requires { ⌜ pos + 2 * length (textAt (now s) at) ≤ length (now out) ⌝ }
     ensures { λ r. ⌜ now (out .exit) ≡ sets (now (out .entry)) pos (encode (textAt (now (s .entry)) at)) ⌝ }
 {
-    let n = text_len(s, at);
-    let mut p = pos;
-    let mut j: u8 = 0;
+    let n = 2 * text_len(s, at) as usize;
+    let from = at as usize + 2;
+    let mut j: usize = 0;
     while j < n {
-        put_byte(out, p, text_byte(s, at, j));
-        p += 2;
+        out[pos + j] = digit_at(s, from + j);
         j += 1;
     }
 }

@@ -1,40 +1,41 @@
--- From a call over the form's own work slice to the answer in one number, packed and read.
-use Prim.Native.Nat.{ℕ, _+_, _*_}
-use mathlib.Core.Path.{_≡_, sym, ap, _∙_}
+-- From what a call leaves to the answer in one number, packed and read.
+use Prim.Native.Nat.{ℕ, _+_, _*_, _≤_, _<_}
+use native.Mathlib.Omega.{arith}
+use mathlib.Core.Path.{_≡_, refl, ap}
 use mathlib.Core.List.{List}
+use lib.ListN.{length, length-replicate}
 use Rattle.lines.specs.Nodes.{Line}
 use Rattle.lines.specs.Theorems.PutAt.{put-over}
+use Rattle.calls.specs.declared.reply.Reply.{Reply}
 use Rattle.calls.specs.Judging.{Judged}
-use Rattle.calls.specs.Outcomes.{Outcome, outcome, cleared, called}
-use Rattle.calls.specs.Theorems.Replies.{by-outcome}
+use Rattle.calls.specs.Outcomes.{Outcome, outcome, outRoom, workRoom, called}
+use Rattle.calls.specs.Engine.Parts.{replied, Settles}
+use Rattle.calls.specs.Theorems.Settled.{short-out, settled-call}
 use Rattle.meadcinder.specs.Forms.{packed, inOne, ownWork, numberIn, placeIn, lengthIn, asRead, bothAsRead}
 
-pub in-one-packed : (o : Outcome) (number place length answer : ℕ) (out work : List ℕ) → outcome number place length out work ≡ o
-    → answer ≡ number * 0x100000000 + place * 0x10000 + length → packed answer out ≡ inOne o
-unfolding inOne
-in-one-packed o number place length answer out work h e = rw e (ap inOne h)
+-- what `in_one` ensures
+abbrev InOne : Reply → ℕ → Type 0
+InOne r answer =
+    (answer ≡ r .number * 0x100000000 + r .place * 0x10000 + r .length) × (numberIn answer ≡ r .number) × (placeIn answer ≡ r .place) × (lengthIn answer ≡ r .length)
 
-own-cleared : cleared ownWork ≡ ownWork
-unfolding cleared
-own-cleared = put-over ownWork
+pub answered : (o : Outcome) (r : Reply) (answer : ℕ) (out second : List ℕ) → InOne r answer → outcome (r .number) (r .place) (r .length) out second ≡ o
+    → (packed answer out ≡ inOne o) × (bothAsRead answer out second ≡ o)
+unfolding inOne bothAsRead
+answered o r answer out second one h = (rw (one .0) (ap inOne h), rw (one .1, one .2, one .3) h)
 
--- the form's own work slice holds zeros afterwards
-own-left : (judged : Judged (List Line)) (out : List ℕ) (number place n : ℕ) (out′ work′ : List ℕ)
-    → outcome number place n out′ work′ ≡ called judged out ownWork → work′ ≡ ownWork
-own-left judged out number place n out′ work′ =
-    by-outcome (λ z. outcome number place n out′ work′ ≡ z → work′ ≡ ownWork) judged out ownWork (λ _ h. cc)
-    (λ r _ _ h. let e : work′ ≡ cleared ownWork = cc in e ∙ own-cleared)
-    (λ ls _ _ h. let e : work′ ≡ cleared ownWork = cc in e ∙ own-cleared)
+-- ## Showing and putting back, over a work slice of their own
 
-pub in-one-read : (judged : Judged (List Line)) (out : List ℕ) (number place n answer : ℕ) (out′ work′ : List ℕ)
-    → outcome number place n out′ work′ ≡ called judged out ownWork
-    → (numberIn answer ≡ number) × (placeIn answer ≡ place) × (lengthIn answer ≡ n) → asRead (packed answer out′) ≡ called judged out ownWork
-unfolding asRead
-in-one-read judged out number place n answer out′ work′ h e =
-    rw (e .0, e .1, e .2) (ap (λ (w : List ℕ). outcome number place n out′ w) (sym (own-left judged out number place n out′ work′ h)) ∙ h)
+module _ (judged : Judged (List Line)) (out : List ℕ) (r : Reply) (answer : ℕ) (one : InOne r answer) where
+  abbrev AnsweredInC : List ℕ → Type 0
+  AnsweredInC out′ = (packed answer out′ ≡ inOne (called judged out ownWork)) × (asRead (packed answer out′) ≡ called judged out ownWork)
 
--- a sweep's outputs are both the caller's
-pub both-read : (o : Outcome) (number place n answer : ℕ) (out′ numbers′ : List ℕ) → outcome number place n out′ numbers′ ≡ o
-    → (numberIn answer ≡ number) × (placeIn answer ≡ place) × (lengthIn answer ≡ n) → bothAsRead answer out′ numbers′ ≡ o
-unfolding bothAsRead
-both-read o number place n answer out′ numbers′ h e = rw (e .0, e .1, e .2) h
+  pub short-in-c : r ≡ replied 1 0 0 → length out < outRoom → AnsweredInC out
+  unfolding asRead bothAsRead
+  short-in-c e h = answered _ r answer out ownWork one (short-out judged out ownWork r e h)
+
+  -- the judging settles beside any work slice, so beside one of zeros, which is cleared already
+  pub settled-in-c : (out′ : List ℕ) → outRoom ≤ length out → Settles judged out out′ r → AnsweredInC out′
+  unfolding asRead bothAsRead
+  settled-in-c out′ room h =
+      let long = length-replicate {A = ℕ} workRoom 0 in
+      answered _ r answer out′ ownWork one (rw (put-over ownWork) at (settled-call judged out out′ ownWork ownWork r room (omega arith) refl h))

@@ -12,6 +12,7 @@ pub data PackedOutcome : Type 0 where
 unfoldable pub inOne : Outcome → PackedOutcome
 inOne (outcome number place length out work) = packed (number * 0x100000000 + place * 0x10000 + length) out
 
+-- counts as the form's work slice: what it brings may be shorter, and no host sees it
 abbrev pub ownWork : List ℕ
 ownWork = replicate workRoom 0
 

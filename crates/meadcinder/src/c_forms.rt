@@ -1,8 +1,11 @@
 // The calls for hosts written in C: byte slices only, a work slice of their own where one is needed, the answer in one number.
-use calls::put_back::put_back;
+use calls::put_back::judged_put_back;
 use calls::reply::Reply;
-use calls::room::WORK_ROOM;
-use calls::show::show;
+use calls::reply::refuse;
+use calls::room::OUT_ROOM;
+use calls::room::PUT_BACK_ROOM;
+use calls::room::SHOW_ROOM;
+use calls::show::judged_show;
 use calls::sweep::sweep;
 ghost use mathlib.Core.Path.{_≡_};
 ghost use Prim.Native.Nat.{_+_, _*_};
@@ -20,8 +23,11 @@ fn in_one(reply: Reply) -> u64
 pub extern "C" fn meadcinder_show(master: &[u8], program: &[u8], out: &mut [u8]) -> u64
     ensures { λ r. ⌜ ShowsInC (now (master .entry)) (now (program .entry)) (now (out .entry)) (packed r (now (out .exit))) ⌝ }
 {
-    let mut work = [0u32; WORK_ROOM];
-    in_one(show(master, program, out, &mut work))
+    if out.len() < OUT_ROOM {
+        return in_one(refuse(1, 0));
+    }
+    let mut work = [0u32; SHOW_ROOM];
+    in_one(judged_show(master, program, out, &mut work))
 }
 
 #[no_mangle]
@@ -33,8 +39,11 @@ pub extern "C" fn meadcinder_put_back(
 ) -> u64
     ensures { λ r. ⌜ PutsBackInC (now (master .entry)) (now (program .entry)) (now (view .entry)) (now (out .entry)) (packed r (now (out .exit))) ⌝ }
 {
-    let mut work = [0u32; WORK_ROOM];
-    in_one(put_back(master, program, view, out, &mut work))
+    if out.len() < OUT_ROOM {
+        return in_one(refuse(1, 0));
+    }
+    let mut work = [0u32; PUT_BACK_ROOM];
+    in_one(judged_put_back(master, program, view, out, &mut work))
 }
 
 #[no_mangle]

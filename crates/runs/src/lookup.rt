@@ -6,12 +6,16 @@ use lines::fields::operation_at;
 use lines::form::is_element;
 use lines::table::Shape;
 use lines::table::row_of;
+use lines::texts::same_byte;
 use lines::texts::same_text;
+use lines::texts::text_len;
 use lines::texts::texts_agree;
 use values::nodes::LEVEL;
 ghost use mathlib.Core.Path.{_≡_};
 ghost use mathlib.Core.List.{List};
-ghost use Prim.Native.Nat.{ℕ};
+ghost use Prim.Native.Nat.{ℕ, _<_};
+ghost use lib.Dec.{eqb};
+ghost use lib.ListN.{length, getD};
 ghost use Rattle.lines.specs.Texts.{sameText};
 ghost use Rattle.lines.specs.Texts.{agree as agreeing};
 ghost use Rattle.lines.specs.Engine.Starts.{linesOf, entriesOf, textAt};
@@ -103,13 +107,36 @@ pub fn agree(prog: &[u8], master: &[u8], source: Text, other: Text) -> bool
     }
 }
 
-// Whether a node's tag is the one at `at` of the program.
-pub fn has_tag(prog: &[u8], master: &[u8], node: Text, at: u32) -> bool
-    ensures { λ r. ⌜ r ≡ sameText (textIn (now (prog .entry)) (now (master .entry)) node) (textAt (now (prog .entry)) «at») ⌝ }
+// Whether a node's text, or its tag, is the one at `at` of `other`.
+pub fn has_text(prog: &[u8], master: &[u8], node: Text, other: &[u8], at: u32) -> bool
+    ensures { λ r. ⌜ r ≡ sameText (textIn (now (prog .entry)) (now (master .entry)) node) (textAt (now (other .entry)) «at») ⌝ }
 {
     match node {
-        Text::Master(p) => same_text(master, p, prog, at),
-        Text::Program(p) => same_text(prog, p, prog, at),
-        Text::Missing => same_text(&prog[0..0], 0, prog, at),
+        Text::Master(p) => same_text(master, p, other, at),
+        Text::Program(p) => same_text(prog, p, other, at),
+        Text::Missing => same_text(&prog[0..0], 0, other, at),
+    }
+}
+
+// How many bytes a node's text has.
+pub fn len_of(prog: &[u8], master: &[u8], node: Text) -> u8
+    ensures { λ r. ⌜ r ≡ length (textIn (now (prog .entry)) (now (master .entry)) node) ⌝ }
+{
+    match node {
+        Text::Master(p) => text_len(master, p),
+        Text::Program(p) => text_len(prog, p),
+        Text::Missing => 0,
+    }
+}
+
+// Whether the text at `at` of `other` and a node's text, whose lengths are known, have the same byte at j.
+pub fn has_byte(prog: &[u8], master: &[u8], node: Text, other: &[u8], at: u32, j: u8) -> bool
+    requires { ⌜ (j < length (textAt (now other) «at»)) × (j < length (textIn (now prog) (now master) node)) ⌝ }
+    ensures { λ r. ⌜ r ≡ eqb (getD (textAt (now (other .entry)) «at») j 0) (getD (textIn (now (prog .entry)) (now (master .entry)) node) j 0) ⌝ }
+{
+    match node {
+        Text::Master(p) => same_byte(other, at, master, p, j),
+        Text::Program(p) => same_byte(other, at, prog, p, j),
+        Text::Missing => false,
     }
 }

@@ -5,7 +5,7 @@ use crate::at::below_bound;
 use crate::at::below_on;
 use crate::lookup::PROGRAM;
 use crate::lookup::agree;
-use crate::lookup::has_tag;
+use crate::lookup::has_text;
 use crate::lookup::is_element_word;
 use crate::lookup::text_of_word;
 use crate::slots::find;
@@ -480,7 +480,7 @@ fn test_tagged(
     let start = at.start;
     let node = text_of_word(prog, entries, nodes, work[start]);
     let tag = entry_text(entries[at.entry as usize]);
-    Tested::Says(has_tag(prog, master, node, tag))
+    Tested::Says(has_text(prog, master, node, prog, tag))
 }
 
 // 13: is an element.

@@ -1,12 +1,12 @@
 -- What the parts of a call ask and promise. A reader of the calls' own contracts needs only Judging and Outcomes.
-use Prim.Native.Nat.{ℕ, suc, _+_, _*_, _-_, _≤_}
+use Prim.Native.Nat.{ℕ, suc, _+_, _*_, _-_, _≤_, _<_}
 use mathlib.Core.Path.{_≡_}
 use mathlib.Core.Bool.{Bool, true, cond}
 use mathlib.Core.List.{List, [], _∷_, map}
 use lib.Dec.{leb, eqb}
 use lib.ListN.{length, take, getD}
 use Rattle.lines.specs.Texts.{sameText}
-use Rattle.lines.specs.Nodes.{Line, nodes, changedMark, deletedMark, noLine}
+use Rattle.lines.specs.Nodes.{Line, nodes, changedMark, deletedMark, noLine, lineAt}
 use Rattle.lines.specs.Entries.{Entry, entries}
 use Rattle.lines.specs.Masters.{masterBounds}
 use Rattle.lines.specs.Verdicts.{reply}
@@ -14,6 +14,7 @@ use Rattle.lines.specs.Views.{countedLines}
 use Rattle.lines.specs.declared.verdict.Verdict.the-variants.{Fine}
 use Rattle.lines.specs.Writing.{fileOf}
 use Rattle.lines.specs.Engine.Starts.{linesOf, entriesOf}
+use Rattle.lines.specs.Engine.Sums.{textSum}
 use Rattle.lines.specs.Engine.Writes.{AllWritable}
 use Rattle.values.specs.Values.{withinBounds}
 use Rattle.values.specs.Standings.{Standing, handsBack, firstOf, restOf}
@@ -31,7 +32,16 @@ use Rattle.calls.specs.declared.reply.Step.the-variants.{Goes, Refused}
 use Rattle.calls.specs.declared.reach.Reached.{Reached}
 use Rattle.calls.specs.declared.reach.Reached.the-variants as reached
 use Rattle.calls.specs.Judging.{Judged, masterRule, judgedProgram, judgedMaster, judgedView, judgedStandings, ran}
-use Rattle.calls.specs.Outcomes.{outcome, settled, outRoom, workRoom}
+use Rattle.calls.specs.Outcomes.{outcome, settled, outRoom}
+
+-- ## Room
+
+-- the words that suffice, by `Space` and `PutSpace`: what lies below the first of twelve levels, then 128 a level showing and 256 putting back
+abbrev pub showRoom : ℕ
+showRoom = 128 + 12 * 128
+
+abbrev pub putBackRoom : ℕ
+putBackRoom = 256 + 12 * 256
 
 -- ## Answers
 
@@ -123,9 +133,12 @@ wordLine E L x = let n = nodeOf (madeBy E) x in shownLine (numberedFrom 0 L) (n 
 abbrev pub viewLines : List Entry → List Line → List ℕ → ℕ → List Line
 viewLines E L w len = view (oneMaster L) (valueAt (madeBy E) w 128 len)
 
+-- the words of what was shown, within the slice and the bounds
+abbrev pub ShownWords : List Entry → List ℕ → ℕ → Type 0
+ShownWords E w len = (128 + len ≤ length w) × (withinBounds (valueAt (madeBy E) w 128 len) ≡ true)
+
 pub record ViewRoom (E : List Entry) (L : List Line) (w : List ℕ) (len : ℕ) (out : List ℕ) : Type 0 where
-  pub inside : 128 + len ≤ length w
-  pub bounds : withinBounds (valueAt (madeBy E) w 128 len) ≡ true
+  pub words : ShownWords E w len
   pub room : length (fileOf (viewLines E L w len)) ≤ length out
 
 -- the mark that the word of a standing leaves
@@ -161,6 +174,10 @@ abbrev pub ViewJudged : List Line → List ℕ → List ℕ → Step → Type 0
 ViewJudged fresh edited starts (Goes n) = ViewGoes fresh edited starts n
 ViewJudged fresh edited starts (Refused r) = Refuses (judgedView fresh edited) r
 
+-- the sums of the lines' texts, one beside each line
+abbrev pub Summed : List Line → List ℕ → Type 0
+Summed ls sums = (length ls ≤ length sums) × ((k : ℕ) → k < length ls → getD sums k 0 ≡ textSum (lineAt ls k .text))
+
 -- the first line with this text, from line k on; where there is none, the place behind the last
 unfoldable pub firstWith : List ℕ → ℕ → List Line → ℕ
 firstWith text k [] = k
@@ -176,14 +193,14 @@ broughtWords fresh es = map (broughtWord es) (countedLines fresh es)
 
 -- ## Putting back, once the program has run
 
-pub record Carriable (E : List Entry) (ends : List ℕ) (L fresh es : List Line) (w out : List ℕ) : Type 0 where
+pub record Carriable (E : List Entry) (ends : List ℕ) (L es : List Line) (w out : List ℕ) : Type 0 where
   pub runnable : Runnable E ends L
   pub few : length es ≤ 128
   pub foot : part w 0 (length L) ≡ sourceWords 0 L
   pub shows : (X : Transformation) (q : ℕ) → Stands E X 0 q
-      → (o : Shown) × (showing (oneMaster L) X ≡ gives o) × (length (o .value) ≡ length es) × (fresh ≡ view (oneMaster L) (o .value))
+      → (o : Shown) × (showing (oneMaster L) X ≡ gives o) × (length (o .value) ≡ length es) × (viewLines E L w (length es) ≡ view (oneMaster L) (o .value))
   pub room : outRoom ≤ length out
-  pub work-room : workRoom ≤ length w
+  pub work-room : putBackRoom ≤ length w
   pub short : (ls : List Line) → judgedStandings (oneMaster L) (runnable .tree) es ≡ gives ls → length (fileOf ls) ≤ outRoom
 
 abbrev pub CarriedBack : List Entry → List Line → List Line → List ℕ → List ℕ → Reply → Type 0
@@ -195,9 +212,8 @@ pub record Comparable (E : List Entry) (ends : List ℕ) (L : List Line) (len : 
   pub shallow : withinBounds (valueAt (madeBy E) w 128 len) ≡ true
   pub form : AllWritable L
   pub bounds : masterBounds L ≡ Fine
-  pub fresh-form : AllWritable (viewLines E L w len)
   pub room : outRoom ≤ length out
-  pub work-room : workRoom ≤ length w
+  pub work-room : putBackRoom ≤ length w
 
 abbrev pub ComparedBack : List Entry → List Line → List ℕ → List ℕ → List ℕ → Reply → Type 0
 ComparedBack E L edited out out′ r =

@@ -1,4 +1,4 @@
--- The lines that a sound program shows of a sound master can be written, are at most 128, and their file scans as they are.
+-- The lines that a sound program shows of a sound master can be written, and are at most 128.
 use mathlib.Core.Path.{_≡_, refl, subst}
 use mathlib.Core.Bool.{Bool, true, false, cond, _&&_}
 use mathlib.Core.List.{List, [], _∷_, map}
@@ -7,7 +7,7 @@ use native.Mathlib.Omega.{arith}
 use lib.Dec.{leb, ltb, eqb}
 use lib.ListN.{length, getD, drop, length-drop, length-map}
 use borrow.Author.Tests.{leb-true, eqb-true}
-use Rattle.lines.specs.declared.scan.File.the-variants.{Program, View}
+use Rattle.lines.specs.declared.scan.File.the-variants.{Program}
 use Rattle.lines.specs.declared.scan.Scan.the-variants.{Lines, Wrong}
 use Rattle.lines.specs.declared.verdict.Verdict.the-variants.{Fine}
 use Rattle.lines.specs.Hex.{decode}
@@ -20,7 +20,6 @@ use Rattle.lines.specs.Writing.{fileOf}
 use Rattle.lines.specs.Theorems.Bools.{and-left, and-right}
 use Rattle.lines.specs.Theorems.Pairs.{decode-bytes}
 use Rattle.lines.specs.Theorems.Widths.{file-short}
-use Rattle.lines.specs.Theorems.RoundTrip.{view-of-nodes, scan-written}
 use Rattle.lines.specs.Theorems.KindRules.{text-rule, tag-rule}
 use Rattle.lines.specs.Theorems.LineRules.{Short, Fields, rule-made, fields-writable, writable-fields, no-line}
 use Rattle.lines.specs.Engine.Writes.{Bytes, Writable, AllWritable}
@@ -157,11 +156,6 @@ fresh-few ls few bounds X o shows = (master-shows-good ls few bounds X o shows) 
 pub length-view : (ls : List Line) (v : Value) → length (view (oneMaster ls) v) ≡ length v
 unfolding view
 length-view ls v = length-map v _
-
--- lines that can be written, and their file: it scans
-pub fresh-scan : (ls : List Line) → AllWritable ls → length ls ≤ 128 → scan View (fileOf ls) ≡ Lines (length ls)
-unfolding limitOf
-fresh-scan ls form few = scan-written View view-of-nodes ls form few
 
 -- what is shown fits the output buffer
 pub show-short : (master program : List ℕ) (vs : List Line) → judgedShow master program ≡ gives vs → length (fileOf vs) ≤ 9856

@@ -11,7 +11,7 @@ use Rattle.lines.specs.declared.scan.Scan.the-variants.{Lines, Wrong}
 use Rattle.lines.specs.declared.table.Shape.{Shape}
 use Rattle.lines.specs.declared.table.Shape.the-variants.{Nothing, Text, Tag, Slot, Missing}
 use Rattle.lines.specs.Hex.{hexValue}
-use Rattle.lines.specs.Lines.{cut}
+use Rattle.lines.specs.Lines.{cut, pairsThenEnd}
 use Rattle.lines.specs.Nodes.{Line}
 use Rattle.lines.specs.Entries.{Entry, rowOf}
 use Rattle.lines.specs.Files.{limitOf, scan}
@@ -60,6 +60,14 @@ entryAt s p = record { operation = pairAt s p; operand = operandAt (rowOf (pairA
 unfoldable pub lineLength : List ℕ → ℕ
 lineLength [] = 0
 lineLength (x ∷ xs) = cond (eqb x 0x0A) 1 (suc (lineLength xs))
+
+-- the first line, as `cut` cuts it
+abbrev pub firstLine : List ℕ → List ℕ
+firstLine s = take (lineLength s) s
+
+-- past the line that begins at place p, if it is whole pairs and 0A; else p
+unfoldable pub pairsEnd : List ℕ → ℕ → ℕ
+pairsEnd s p = cond (pairsThenEnd (firstLine (drop p s))) (p + lineLength (drop p s)) p
 
 -- where each line begins, the first at place p
 unfoldable pub startsFrom : ℕ → List (List ℕ) → List ℕ

@@ -6,15 +6,14 @@ use Prim.Native.Nat.{ℕ, suc, _+_, _-_, _≤_, _<_}
 use native.Mathlib.Nat.{not-suc-le-zero}
 use native.Mathlib.Omega.{arith}
 use lib.Dec.{eqb, ltb}
-use lib.ListN.{length, getD, take, drop, length-drop, drop-of-length-le}
+use lib.ListN.{length, take, drop, length-drop, drop-of-length-le}
 use lib.Seq.{drop-drop, length-take-le}
-use borrow.Author.Tests.{eq-eqb, ne-eqb, ltb-true, ltb-false}
+use borrow.Author.Tests.{ltb-true, ltb-false}
 use Rattle.lines.specs.Lines.{push, cut}
-use Rattle.lines.specs.Theorems.Lists.{drop-one}
-use Rattle.lines.specs.Engine.Starts.{lineLength, startsFrom}
+use Rattle.lines.specs.Engine.Starts.{lineLength, firstLine, startsFrom}
 
 -- the first line is the first lineLength bytes, and the others are cut from what is behind
-pub cut-first : (s : List ℕ) → 0 < length s → cut s ≡ take (lineLength s) s ∷ cut (drop (lineLength s) s)
+pub cut-first : (s : List ℕ) → 0 < length s → cut s ≡ firstLine s ∷ cut (drop (lineLength s) s)
 unfolding cut lineLength push
 cut-first [] h = absurd (not-suc-le-zero h)
 cut-first (x ∷ []) h = go (eqb x 0x0A) refl
@@ -47,19 +46,9 @@ first-some (x ∷ s) h = go (eqb x 0x0A)
     go true = omega arith
     go false = omega arith
 
--- byte by byte, from place i on
 module _ (s : List ℕ) (i : ℕ) where
-  pub length-ends : i < length s → getD s i 0 ≡ 0x0A → lineLength (drop i s) ≡ 1
-  unfolding lineLength
-  length-ends h e = rw (drop-one s i 0 h, eq-eqb (getD s i 0) 0x0A e)
-
-  pub length-goes-on : i < length s → (getD s i 0 ≡ 0x0A → ⊥) → lineLength (drop i s) ≡ 1 + lineLength (drop (i + 1) s)
-  unfolding lineLength
-  length-goes-on h e = rw (drop-one s i 0 h, ne-eqb (getD s i 0) 0x0A e) (omega arith)
-
-  pub length-none : length s ≤ i → lineLength (drop i s) ≡ 0
-  unfolding lineLength
-  length-none h = rw (drop-of-length-le s h)
+  pub cut-from : i < length s → cut (drop i s) ≡ firstLine (drop i s) ∷ cut (drop (lineLength (drop i s)) (drop i s))
+  cut-from h = cut-first (drop i s) (omega (arith, length-drop i s))
 
   pub cut-none : length s ≤ i → cut (drop i s) ≡ []
   unfolding cut
@@ -88,7 +77,7 @@ module _ (s : List ℕ) (at : ℕ) (h : at < length s) (e : ℕ) (q : e ≡ at +
   cut-at =
       let d : lineLength (drop at s) ≡ e - at = omega arith in
       let b : at + (e - at) ≡ e = omega (arith, first-within (drop at s)) in
-      (rw d at (cut-first (drop at s) (omega (arith, length-drop at s))))
+      (rw d at (cut-from s at h))
       ∙ ap (λ (l : List ℕ). take (e - at) (drop at s) ∷ cut l) (drop-drop (e - at) at s ∙ ap (λ (k : ℕ). drop k s) b)
 
 pub length-starts : (p : ℕ) (cs : List (List ℕ)) → length (startsFrom p cs) ≡ length cs

@@ -1,6 +1,6 @@
 -- The bytes that pairs are, and the pairs that bytes are.
 use mathlib.Core.Path.{_≡_, refl, sym, _∙_, ap, ap₂, subst}
-use mathlib.Core.Bool.{Bool, true, false, cond, _&&_, not}
+use mathlib.Core.Bool.{Bool, true, false, cond, _&&_, _||_, not}
 use mathlib.Core.List.{List, [], _∷_, _++_}
 use Prim.Native.Nat.{ℕ, zero, suc, _+_, _*_, _-_, _/_, _%_, _≤_, _<_}
 use native.Mathlib.Nat.{not-suc-le-zero, le-of-suc-le-suc}
@@ -9,7 +9,7 @@ use native.Mathlib.Omega.{arith}
 use lib.Dec.{eqb, leb}
 use lib.ListN.{length, getD, take, drop, replicate, length-drop}
 use lib.Seq.{getD-take, getD-drop}
-use borrow.Author.Tests.{leb-true, le-leb, lt-leb, lt-ltb, le-ltb, eqb-true}
+use borrow.Author.Tests.{leb-true, le-leb, lt-leb, lt-ltb, le-ltb, eqb-true, ne-eqb}
 use Rattle.lines.specs.Hex.{between, isHex, hexValue, decode, hexDigit, encode}
 use Rattle.lines.specs.Lines.{pairsThenEnd}
 use Rattle.lines.specs.Theorems.Bools.{never, and-left, and-right, or-cases}
@@ -45,6 +45,21 @@ digit-value x e =
     rw (le-leb 0x30 x (omega arith), lt-leb x 0x39 (omega arith), q, le-ltb (x - 0x37) 10 (omega arith), lt-ltb (x - 0x37) 16 (omega arith)) (omega arith))
     e
 
+-- 0A is no digit
+pub digit-goes-on : (x : ℕ) → isHex x ≡ true → eqb x 0x0A ≡ false
+unfolding isHex
+digit-goes-on x e = ne-eqb x 0x0A (λ q. never (rw q at e))
+
+-- what is no digit has the value 0
+pub no-value : (x : ℕ) → isHex x ≡ false → hexValue x ≡ 0
+unfolding isHex hexValue
+no-value x e = go (between 0x30 0x39 x) (between 0x41 0x46 x) e
+  where
+    go : (s t : Bool) → (s || t) ≡ false → cond s (x - 0x30) (cond t (x - 0x37) 0) ≡ 0
+    go true t e = cc
+    go false true e = cc
+    go false false e = refl
+
 -- the sixteen digits: each has its value, is a digit, and ends no line
 digit-fine : ℕ → ℕ → Bool
 digit-fine k x = eqb (hexValue (hexDigit k)) k && (isHex (hexDigit k) && not (eqb (hexDigit k) 0x0A))
@@ -71,6 +86,15 @@ module _ (k : ℕ) (h : k < 16) where
 pub pair-small : (s : List ℕ) (p : ℕ) → pairAt s p < 256
 unfolding pairAt
 pair-small s p = omega (arith, value-small (getD s p 0), value-small (getD s (suc p) 0))
+
+module _ (s : List ℕ) (p : ℕ) where
+  pub high-digit : pairAt s p / 16 ≡ hexValue (getD s p 0)
+  unfolding pairAt
+  high-digit = omega (arith, value-small (getD s (suc p) 0))
+
+  pub low-digit : pairAt s p % 16 ≡ hexValue (getD s (suc p) 0)
+  unfolding pairAt
+  low-digit = omega (arith, value-small (getD s (suc p) 0))
 
 pub length-decode : (s : List ℕ) → length (decode s) ≡ length s / 2
 unfolding decode

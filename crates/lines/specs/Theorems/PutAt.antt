@@ -1,5 +1,5 @@
 -- What stands in a slice after something was put into it: whole, from the front, and word by word.
-use mathlib.Core.Path.{_≡_, refl, sym, _∙_, ap, ap₂}
+use mathlib.Core.Path.{_≡_, refl, sym, _∙_, ap, ap₂, subst}
 use mathlib.Core.List.{List, [], _++_, append-assoc, append-nil}
 use mathlib.Core.Logic.{_⊎_, inl, inr}
 use Prim.Native.Nat.{ℕ, suc, _+_, _-_, _≤_, _<_}
@@ -136,6 +136,11 @@ module _ (w₀ : List ℕ) (to : ℕ) (new : List ℕ) (len : ℕ) (all : length
   pub putting-goes-on : {w : List ℕ} {i x : ℕ} → Putting w₀ to new len w i → i < len → x ≡ getD new i 0 → Putting w₀ to new len (set w (to + i) x) (i + 1)
   putting-goes-on {w} {i} {x} p h e =
       record { most = omega arith; long = length-set w (to + i) x ∙ p .long; so-far = put-more w₀ to new i (omega arith) (omega arith) (p .so-far) e }
+
+  -- at the front, where the code counts from 0
+  pub putting-front : to ≡ 0 → {w : List ℕ} {i x : ℕ} → Putting w₀ to new len w i → i < len → x ≡ getD new i 0 → Putting w₀ to new len (set w i x) (i + 1)
+  putting-front z {w} {i} {x} p h e =
+      subst (λ (k : ℕ). Putting w₀ to new len (set w k x) (i + 1)) (ap (λ (n : ℕ). n + i) z ∙ zero-add i) (putting-goes-on p h e)
 
   pub putting-ends : {w : List ℕ} {i : ℕ} → Putting w₀ to new len w i → len ≤ i → w ≡ putAt w₀ to new
   putting-ends {w} {i} p h = p .so-far ∙ ap (putAt w₀ to) (take-all i new (omega arith))

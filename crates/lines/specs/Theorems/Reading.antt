@@ -15,13 +15,13 @@ use Rattle.lines.specs.declared.scan.Scan.{Scan}
 use Rattle.lines.specs.declared.scan.Scan.the-variants.{Lines, Wrong}
 use Rattle.lines.specs.declared.table.Shape.{Shape}
 use Rattle.lines.specs.declared.table.Shape.the-variants.{Nothing, Text, Tag, Slot, Missing}
-use Rattle.lines.specs.Hex.{decode}
+use Rattle.lines.specs.Hex.{hexValue, decode, hexDigit, encode}
 use Rattle.lines.specs.Lines.{cut, pairsThenEnd, isLine}
 use Rattle.lines.specs.Nodes.{nodeForm, nodeLine, nodeOf, nodes}
 use Rattle.lines.specs.Entries.{textForm, operandForm, entryForm, entryLine, entryOf, entries, rowOf}
 use Rattle.lines.specs.Files.{formOf, limitOf, scanFrom, scan}
 use Rattle.lines.specs.Theorems.Bools.{never, and-left, and-right}
-use Rattle.lines.specs.Theorems.Pairs.{getD-decode, pair-part, line-length}
+use Rattle.lines.specs.Theorems.Pairs.{high-digit, low-digit, getD-decode, pair-part, line-length}
 use Rattle.lines.specs.Theorems.Cutting.{cut-at, line-inside, end-within, end-beyond, line-long, length-starts}
 use Rattle.lines.specs.Engine.Starts.{pairAt, lineLength, startsFrom, starts, bytesFrom, textAt, nodeAt, linesOf, operandAt, entryAt, entriesOf, Scanned}
 
@@ -30,15 +30,33 @@ unfolding bytesFrom
 length-bytes s p zero = refl
 length-bytes s p (suc k) = ap suc (length-bytes s (p + 2) k)
 
-pub getD-bytes : (s : List ℕ) (p k j : ℕ) → j < k → getD (bytesFrom s p k) j 0 ≡ pairAt s (p + 2 * j)
+getD-bytes : (s : List ℕ) (p k j : ℕ) → j < k → getD (bytesFrom s p k) j 0 ≡ pairAt s (p + 2 * j)
 unfolding bytesFrom
 getD-bytes s p zero j h = absurd (not-suc-le-zero h)
 getD-bytes s p (suc k) zero h = ap (pairAt s) (omega arith)
 getD-bytes s p (suc k) (suc j) h = getD-bytes s (p + 2) k j (le-of-suc-le-suc h) ∙ ap (pairAt s) (omega arith)
 
-pub length-text : (s : List ℕ) (p : ℕ) → length (textAt s p) ≡ pairAt s p
+length-text : (s : List ℕ) (p : ℕ) → length (textAt s p) ≡ pairAt s p
 unfolding textAt
 length-text s p = length-bytes s (p + 2) (pairAt s p)
+
+-- byte j of a text is the pair j behind its length
+pub byte-of-text : (s : List ℕ) (p j : ℕ) → j < length (textAt s p) → getD (textAt s p) j 0 ≡ pairAt s (p + 2 + 2 * j)
+unfolding textAt
+byte-of-text s p j h = getD-bytes s (p + 2) (pairAt s p) j (omega (arith, length-text s p))
+
+-- and its digits are those that stand there
+getD-digits : (s : List ℕ) (p k j : ℕ) → j < 2 * k → getD (encode (bytesFrom s p k)) j 0 ≡ hexDigit (hexValue (getD s (p + j) 0))
+unfolding bytesFrom encode pairAt
+getD-digits s p zero j h = absurd (not-suc-le-zero h)
+getD-digits s p (suc k) zero h = ap hexDigit (high-digit s p) ∙ ap (λ (i : ℕ). hexDigit (hexValue (getD s i 0))) (omega arith)
+getD-digits s p (suc k) (suc zero) h = ap hexDigit (low-digit s p) ∙ ap (λ (i : ℕ). hexDigit (hexValue (getD s i 0))) (omega arith)
+getD-digits s p (suc k) (suc (suc j)) h =
+    getD-digits s (p + 2) k j (omega arith) ∙ ap (λ (i : ℕ). hexDigit (hexValue (getD s i 0))) (omega arith)
+
+pub digit-of-text : (s : List ℕ) (p j : ℕ) → j < 2 * length (textAt s p) → getD (encode (textAt s p)) j 0 ≡ hexDigit (hexValue (getD s (p + 2 + j) 0))
+unfolding textAt
+digit-of-text s p j h = getD-digits s (p + 2) (pairAt s p) j (omega (arith, length-text s p))
 
 -- ## One line
 

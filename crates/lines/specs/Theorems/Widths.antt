@@ -50,10 +50,6 @@ line-width : (c : List ℕ) → isLine c ≡ true → length c ≡ 1 + 2 * lengt
 unfolding isLine
 line-width c e = line-length c (and-left (pairsThenEnd c) _ e)
 
-pub line-some : (c : List ℕ) → isLine c ≡ true → 1 ≤ length (decode c)
-unfolding isLine
-line-some c e = leb-true 1 (length (decode c)) (and-right (pairsThenEnd c) _ e)
-
 entry-width : (c : List ℕ) → entryLine c ≡ true → length c ≤ 69
 unfolding entryLine entryForm
 entry-width c e =

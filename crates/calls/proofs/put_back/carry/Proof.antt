@@ -8,7 +8,7 @@ use borrow.Author.Needs.{needs}
 use Rattle.lines.specs.Nodes.{Line}
 use Rattle.lines.specs.Entries.{Entry}
 use Rattle.lines.specs.Engine.Starts.{nodeAt, linesOf, entriesOf}
-use Rattle.calls.proofs.Carrying.{Handed, Stood, fresh-many, put-asks, standings-put}
+use Rattle.calls.proofs.Carrying.{Handed, Stood, put-asks, standings-put}
 use Rattle.calls.proofs.put_back.carry.Statement.{statement}
 use Rattle.calls.proofs.put_back.carry.Tie as tie
 
@@ -18,18 +18,12 @@ E s = entriesOf (s .args .program .now) (s .args .entries .now)
 abbrev L : tie.Start → List Line
 L s = linesOf (s .args .master .now) (s .args .nodes .now)
 
-abbrev fresh : tie.Start → List Line
-fresh s = linesOf (s .args .fresh .now) (s .args .fresh-lines .now)
-
 abbrev es : tie.Start → List Line
 es s = linesOf (s .args .view .now) (s .args .lines .now)
 
 -- the code counts starts
 many-nodes : (s : tie.Start) → length (s .args .nodes .now) ≡ length (L s)
 many-nodes s = sym (length-map (s .args .nodes .now) (nodeAt (s .args .master .now)))
-
-many-fresh : (s : tie.Start) → length (s .args .fresh-lines .now) ≡ length (fresh s)
-many-fresh s = sym (length-map (s .args .fresh-lines .now) (nodeAt (s .args .fresh .now)))
 
 many-lines : (s : tie.Start) → length (s .args .lines .now) ≡ length (es s)
 many-lines s = sym (length-map (s .args .lines .now) (nodeAt (s .args .view .now)))
@@ -39,7 +33,7 @@ abbrev brought : tie.After-put → tie.After-bring-view
 brought p = p .before .before .before .before .before .before
 
 abbrev entered : tie.After-bring-view → tie.Start
-entered p = p .before .before .before .before .before .before .before .before .before .before .before .before .before
+entered p = p .before .before .before .before .before .before .before .before .before .before .before
 
 abbrev work : tie.After-put → List ℕ
 work p = p .put .last .1 .1 .1 .1 .1 .0
@@ -60,13 +54,11 @@ handed p =
 
 bring-view-requires : tie.Need-bring-view-requires
 bring-view-requires c κs =
-    let s = c .before .before .before .before .before .before .before .before .before .before .before .before in
+    let s = c .before .before .before .before .before .before .before .before .before .before in
     let few = s .pre .few in
     let room = s .pre .work-room in
     let many = many-lines s in
-    let as-many = fresh-many (s .pre) in
-    let starts = many-fresh s in
-    (omega arith, omega arith, omega arith)
+    (omega arith, omega arith)
 
 put-requires : tie.Need-put-requires
 put-requires c κs =

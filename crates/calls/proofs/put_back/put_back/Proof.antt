@@ -6,7 +6,7 @@ use borrow.Rule.Slice.PartMut.{drop-put}
 use Rattle.lines.specs.Nodes.{Line}
 use Rattle.calls.specs.Judging.{Judged, judgedPutBack}
 use Rattle.calls.specs.Outcomes.{workRoom, putBackCall}
-use Rattle.calls.proofs.Judged.{short-out, short-work, settled-call}
+use Rattle.calls.specs.Theorems.Settled.{short-out, short-work, settled-call}
 use Rattle.calls.proofs.put_back.put_back.Statement.{statement}
 use Rattle.calls.proofs.put_back.put_back.Tie as tie
 

@@ -5,21 +5,22 @@ use native.Mathlib.Omega.{arith}
 use borrow.Author.Needs.{needs}
 use Rattle.lines.specs.Nodes.{Line}
 use Rattle.lines.specs.Theorems.Places.{scanned-wrong}
-use Rattle.lines.specs.Engine.Starts.{linesOf}
+use Rattle.lines.specs.Engine.Starts.{linesOf, entriesOf}
+use Rattle.calls.specs.Engine.Parts.{viewLines}
 use Rattle.calls.proofs.Places.{refused}
 use Rattle.calls.proofs.ViewJudging.{Differs, Marked, view-misformed, view-few, differs, marked}
 use Rattle.calls.proofs.view_in.judge_view.Statement.{statement}
 use Rattle.calls.proofs.view_in.judge_view.Tie as tie
 
 abbrev fresh : tie.Start → List Line
-fresh s = linesOf (s .args .fresh .now) (s .args .fresh-lines .now)
+fresh s = let a = s .args in viewLines (entriesOf (a .program .now) (a .entries .now)) (linesOf (a .master .now) (a .nodes .now)) (a .work .now) (a .len)
 
 -- from a place back to the scan, and to the entry
 abbrev scanned : tie.After-scanned2 → tie.After-scan-lines
 scanned p = p .before .before .before .before
 
 abbrev entered : tie.After-scan-lines → tie.Start
-entered p = p .before .before .before .before .before .before
+entered p = p .before .before .before .before .before .before .before .before .before
 
 abbrev lines-of : tie.After-difference → tie.After-scanned2
 lines-of p = p .before .before .before .before
@@ -48,6 +49,9 @@ refuse-requires c κs = omega (arith, scanned-wrong (c .before .before .before .
 part-difference-end : tie.Need-part-difference-end
 part-difference-end c = omega (arith, few (c .before .before))
 
+difference-requires : tie.Need-difference-requires
+difference-requires c κs = entered (scanned (c .before .before .before)) .pre .0
+
 refuse-requires-2 : tie.Need-refuse-requires-2
 refuse-requires-2 c κs = compared (c .before .before .before) .place _ (c .before .differs .given .1)
 
@@ -74,6 +78,6 @@ returns-4 c = searched (c .before .before) .goes (c .enum-told2 .given .1)
 pub judge-view-spec : {M : Type 1} → statement M
 judge-view-spec =
     tie.close (tie.spec (λ c κs. search needs) (λ c. search needs) refuse-requires (λ c. search needs) (λ c. search needs) (λ c. search needs)
-    part-difference-end (λ c κs. search needs) (λ c. search needs) refuse-requires-2 (λ c. search needs) (λ c. search needs) (λ c. search needs)
+    part-difference-end difference-requires (λ c. search needs) refuse-requires-2 (λ c. search needs) (λ c. search needs) (λ c. search needs)
     part-program-mark-end (λ c κs. search needs) (λ c. search needs) refuse-requires-3 (λ c. search needs) (λ c. search needs) returns
     (λ c. search needs) returns-2 (λ c. search needs) returns-3 (λ c. search needs) returns-4)

@@ -10,7 +10,7 @@ use Rattle.lines.specs.Hex.{decode}
 use Rattle.lines.specs.Texts.{sameText}
 use Rattle.lines.specs.Theorems.Pairs.{length-decode, getD-decode}
 use Rattle.lines.specs.Engine.Starts.{pairAt}
-use Rattle.lines.proofs.Views.{length-differs, byte-differs, text-ends, text-goes-back, text-whole}
+use Rattle.lines.specs.Theorems.Comparing.{length-differs, byte-differs, text-ends, text-goes-back, text-whole}
 use Rattle.lines.proofs.form.is_word.Statement.{statement}
 use Rattle.lines.proofs.form.is_word.Tie as tie
 

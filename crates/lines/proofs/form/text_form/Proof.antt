@@ -1,12 +1,10 @@
 -- Each test decides a comparison of `textForm`.
-use mathlib.Core.Path.{_≡_, sym, _∙_}
 use native.Mathlib.Omega.{arith}
-use lib.ListN.{getD}
 use borrow.Author.Needs.{needs}
 use borrow.Author.Tests.{le-leb, lt-leb}
 use Rattle.lines.specs.Entries.{textForm}
-use Rattle.lines.specs.Hex.{decode}
-use Rattle.lines.specs.Theorems.Pairs.{length-decode, getD-decode}
+use Rattle.lines.specs.Theorems.Pairs.{length-decode}
+use Rattle.lines.proofs.Forms.{byte-read}
 use Rattle.lines.proofs.form.text_form.Statement.{statement}
 use Rattle.lines.proofs.form.text_form.Tie as tie
 
@@ -19,7 +17,7 @@ unfolding textForm
 returns-2 c =
     let after-pair-at = c .before in
     let d = after-pair-at .before .before .before .args .d .now in
-    let first : getD (decode d) 0 0 ≡ c .before .pair-at .result = getD-decode d 0 (omega (arith, length-decode d)) ∙ sym (after-pair-at .pair-at .ensures) in
+    let first = byte-read d 0 (omega arith) (after-pair-at .pair-at .ensures) in
     rw (length-decode, le-leb 1 _ (after-pair-at .before .if1 .left), first, lt-leb _ 32 (c .if2 .taken))
 
 returns-3 : tie.Need-returns-3
@@ -27,7 +25,7 @@ unfolding textForm
 returns-3 c =
     let after-pair-at = c .before in
     let d = after-pair-at .before .before .before .args .d .now in
-    let first : getD (decode d) 0 0 ≡ c .before .pair-at .result = getD-decode d 0 (omega (arith, length-decode d)) ∙ sym (after-pair-at .pair-at .ensures) in
+    let first = byte-read d 0 (omega arith) (after-pair-at .pair-at .ensures) in
     rw (length-decode, le-leb 1 _ (after-pair-at .before .if1 .left), first, le-leb _ 32 (c .if2 .left))
 
 pub text-form-spec : {M : Type 1} → statement M

@@ -15,13 +15,6 @@ no-digit : hexValue 0 ≡ 0
 unfolding hexValue
 no-digit = refl
 
--- the entry, seen from a later place
-abbrev from-hex-value : tie.After-hex-value → tie.Start
-from-hex-value p = p .before .before .before .before
-
-abbrev from-hex-value2 : tie.After-hex-value2 → tie.Start
-from-hex-value2 p = from-hex-value (p .before .before .before)
-
 returns : tie.Need-returns
 unfolding pairAt hexValue
 returns c =
@@ -31,27 +24,27 @@ returns c =
     rw (List·getD-eq-default s 0 {n = p} (c .if1 .taken), List·getD-eq-default s 0 {n = suc p} (omega arith))
 
 mul-result : tie.Need-mul-result
-mul-result c = let a = from-hex-value (c .before) .args in omega (arith, value-small (getD (a .s .now) (a .p) 0))
+mul-result c = let a = c .before .before .before .before .before .args in omega (arith, value-small (getD (a .s .now) (a .p) 0))
 
 returns-2 : tie.Need-returns-2
 unfolding pairAt
 returns-2 c =
-    let entry = from-hex-value (c .before) in
+    let entry = c .before .before .before .before .before in
     let s = entry .args .s .now in
     let p = entry .args .p in
     let z : hexValue (getD s (suc p) 0) ≡ 0 = rw (List·getD-eq-default s 0 {n = suc p} (omega arith)) no-digit in
     omega arith
 
 mul-result-2 : tie.Need-mul-result-2
-mul-result-2 c = let a = from-hex-value2 c .args in omega (arith, value-small (getD (a .s .now) (a .p) 0))
+mul-result-2 c = let a = c .before .before .before .before .before .args in omega (arith, value-small (getD (a .s .now) (a .p) 0))
 
 add-result : tie.Need-add-result
-add-result c = let a = from-hex-value2 c .args in omega (arith, value-small (getD (a .s .now) (a .p) 0), value-small (getD (a .s .now) (a .p + 1) 0))
+add-result c = let a = c .before .before .before .before .before .before .before .args in omega (arith, value-small (getD (a .s .now) (a .p) 0), value-small (getD (a .s .now) (a .p + 1) 0))
 
 returns-3 : tie.Need-returns-3
 unfolding pairAt
 returns-3 c =
-    let entry = from-hex-value2 c in
+    let entry = c .before .before .before .before .before .before .before in
     let s = entry .args .s .now in
     let p = entry .args .p in
     let z : hexValue (getD s (suc p) 0) ≡ hexValue (getD s (p + 1) 0) = ap (λ (k : ℕ). hexValue (getD s k 0)) (sym (add-one p)) in
@@ -59,5 +52,5 @@ returns-3 c =
 
 pub pair-at-spec : {M : Type 1} → statement M
 pair-at-spec =
-    tie.close (tie.spec returns (λ c. search needs) (λ c κs. search needs) (λ c. search needs) mul-result returns-2 (λ c. search needs)
-    (λ c. search needs) (λ c κs. search needs) mul-result-2 add-result returns-3)
+    tie.close (tie.spec returns (λ c. search needs) (λ c. search needs) (λ c κs. search needs) mul-result returns-2 (λ c. search needs)
+    (λ c κs. search needs) mul-result-2 (λ c. search needs) (λ c. search needs) (λ c κs. search needs) add-result returns-3)

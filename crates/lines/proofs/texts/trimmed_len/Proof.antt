@@ -39,15 +39,18 @@ module _ (t : List ℕ) (n : ℕ) {x : ℕ} (s : 0 < n) (h : n ≤ length t) (e 
       sym (length-take-le n t h)
       ∙ ap length (last ∙ (sym (other-behind (take (n - 1) t) x p) ∙ (ap trimmed (sym last) ∙ k)))
 
+byte-at-requires : tie.Need-byte-at-requires Inv-loop μ-loop
+byte-at-requires c κs = let most = c .before .loop .inv .0 in omega arith
+
 returns : tie.Need-returns Inv-loop μ-loop
 returns c =
     let at-loop = c .before .before .before in
-    other-stays _ _ (omega arith) (at-loop .loop .inv .0) (c .before .text-byte .ensures) (at-loop .loop .inv .1) (c .if1 .taken)
+    other-stays _ _ (omega arith) (at-loop .loop .inv .0) (c .before .byte-at .ensures) (at-loop .loop .inv .1) (c .if1 .taken)
 
 loop-again : tie.Need-loop-again Inv-loop μ-loop
 loop-again c =
     let at-loop = c .before .before .before in
-    (omega arith, space-goes _ _ (omega arith) (at-loop .loop .inv .0) (c .before .text-byte .ensures) (at-loop .loop .inv .1) (c .if1 .left))
+    (omega arith, space-goes _ _ (omega arith) (at-loop .loop .inv .0) (c .before .byte-at .ensures) (at-loop .loop .inv .1) (c .if1 .left))
 
 returns-2 : tie.Need-returns-2 Inv-loop μ-loop
 unfolding trimmed
@@ -55,5 +58,5 @@ returns-2 c = let at-loop = c .before in let z : at-loop .loop .n ≡ 0 = omega 
 
 pub trimmed-len-spec : {M : Type 1} → statement M
 trimmed-len-spec =
-    tie.close (tie.spec Inv-loop μ-loop (λ c κs. search needs) loop-holds (λ c. search needs) (λ c κs. search needs) returns (λ c. search needs) (λ c. search needs)
+    tie.close (tie.spec Inv-loop μ-loop (λ c κs. search needs) loop-holds (λ c. search needs) byte-at-requires returns (λ c. search needs) (λ c. search needs)
     loop-again returns-2)

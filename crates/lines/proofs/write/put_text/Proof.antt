@@ -1,57 +1,70 @@
--- After `j` bytes the pairs of the text's first `j` bytes stand from `pos` on.
-use mathlib.Core.Path.{_≡_, refl, _∙_, ap}
-use mathlib.Core.List.{List}
-use Prim.Native.Nat.{ℕ, _+_, _*_, _-_, _≤_}
+-- After `j` digits the first `j` of the text's stand from `pos` on.
+use mathlib.Core.Path.{_≡_, refl, sym, _∙_, ap}
+use Prim.Native.Nat.{_^_, _+_, _-_, _≤_, _<_}
 use native.Mathlib.Omega.{arith}
-use lib.ListN.{length, take}
+use lib.ListN.{length, length-set, take}
 use lib.Seq.{sets, take-all}
 use borrow.Author.Needs.{needs}
 use Rattle.lines.specs.Hex.{encode}
+use Rattle.lines.specs.Theorems.Pairs.{length-encode}
+use Rattle.lines.specs.Theorems.Reading.{digit-of-text}
 use Rattle.lines.specs.Engine.Starts.{textAt}
 use Rattle.lines.proofs.Writes.{put-next}
 use Rattle.lines.proofs.write.put_text.Statement.{statement}
 use Rattle.lines.proofs.write.put_text.Tie as tie
 
 abbrev Inv-loop : tie.InvT-loop
-Inv-loop out₀ pos s at n p₀ j₀ out p j = (j ≤ n) × (p ≡ pos + 2 * j) × (length out ≡ length out₀) × (out ≡ sets out₀ pos (encode (take j (textAt s at))))
+Inv-loop out₀ pos s at n from j₀ out j = (j ≤ n) × (length out ≡ length out₀) × (out ≡ sets out₀ pos (take j (encode (textAt s at))))
 
 abbrev μ-loop : tie.MeasureT-loop
-μ-loop out₀ pos s at n p₀ j₀ out p j = n - j
-
--- the entry, seen from a later place
-abbrev from-loop : tie.At-loop Inv-loop μ-loop → tie.Start Inv-loop μ-loop
-from-loop p = p .before .before .before .before
+μ-loop out₀ pos s at n from j₀ out j = n - j
 
 loop-holds : tie.Need-loop-holds Inv-loop μ-loop
-unfolding encode
-loop-holds c = (omega arith, omega arith, refl, refl)
+loop-holds c = (omega arith, refl, refl)
 
-put-byte-requires : tie.Need-put-byte-requires Inv-loop μ-loop
-put-byte-requires c κs = omega arith
+-- there is room for the next digit
+room : (p : tie.After-digit-at Inv-loop μ-loop) → let s = p .before .before .before .before .before .before in let l = p .before .before .loop in
+    (s .args .pos + l .j < 2 ^ 64) × (s .args .pos + l .j < length (l .out))
+room p =
+    let s = p .before .before .before .before .before .before in
+    let l = p .before .before .loop in
+    let asked = s .pre in
+    let long = l .inv .1 in
+    let many = p .before .before .before .text-len .ensures in
+    let inside = p .before .loop-test .taken in
+    let bound = s .good .0 .0 in
+    (omega arith, omega arith)
+
+add-out : tie.Need-add-out Inv-loop μ-loop
+add-out c = let r = room c .0 in search needs
+
+slice-write-out : tie.Need-slice-write-out Inv-loop μ-loop
+slice-write-out c = room c .1
+
+same-length : tie.Need-same-length Inv-loop μ-loop
+same-length c = c .before .loop .inv .1
 
 loop-again : tie.Need-loop-again Inv-loop μ-loop
 loop-again c =
-    let after-put-byte = c .before .before in
-    let at-loop = after-put-byte .before .before .before .before in
-    let a = from-loop at-loop .args in
-    let l = at-loop .loop in (
+    let l = c .before .before .loop in
+    let a = c .before .before .before .before .before .before .args in
+    let t = textAt (a .s .now) (a .at) in
+    let inside = c .before .loop-test .taken in
+    let many = c .before .before .before .text-len .ensures in (
       omega arith,
-      omega arith,
-      after-put-byte .put-byte .kept .0 ∙ l .inv .2,
-      put-next (a .out .now) (a .pos) (textAt (a .s .now) (a .at)) (l .j)
-          (omega arith) (l .inv .3) (l .p) (l .inv .1) (rw (← after-put-byte .before .text-byte .ensures) (after-put-byte .put-byte .ensures)),
+      length-set (l .out) _ _ ∙ l .inv .1,
+      put-next (a .out .now) (a .pos) (encode t) (l .j) (omega (arith, length-encode t)) (l .inv .2)
+          (c .digit-at .ensures ∙ sym (digit-of-text (a .s .now) (a .at) (l .j) (omega arith))),
     )
-
-same-length : tie.Need-same-length Inv-loop μ-loop
-same-length c = c .before .loop .inv .2
 
 returns : tie.Need-returns Inv-loop μ-loop
 returns c =
-    let a = from-loop (c .before) .args in
     let l = c .before .loop in
-    l .inv .3 ∙ ap (λ (x : List ℕ). sets (a .out .now) (a .pos) (encode x)) (take-all (l .j) (textAt (a .s .now) (a .at)) (omega arith))
+    let a = c .before .before .before .before .before .args in
+    let t = textAt (a .s .now) (a .at) in
+    l .inv .2 ∙ ap (sets (a .out .now) (a .pos)) (take-all (l .j) (encode t) (omega (arith, length-encode t)))
 
 pub put-text-spec : {M : Type 1} → statement M
 put-text-spec =
-    tie.close (tie.spec Inv-loop μ-loop (λ c κs. search needs) loop-holds (λ c κs. search needs) put-byte-requires (λ c. search needs)
-    (λ c. search needs) (λ c. search needs) loop-again same-length returns)
+    tie.close (tie.spec Inv-loop μ-loop (λ c κs. search needs) (λ c. search needs) (λ c. search needs) (λ c. search needs) loop-holds (λ c. search needs)
+    (λ c κs. search needs) add-out slice-write-out (λ c. search needs) (λ c. search needs) loop-again same-length returns)

@@ -69,7 +69,7 @@ returns-2 c =
     let a = s .args .at in
     let t = tag-bytes (s .args .prog .now) (s .args .entries .now) (a .entry) (inside s) _ (c .before .entry-text .ensures) (s .pre .1) in
     rw (words-element (made s) (s .args .work .now) (a .start) (a .len) (s .pre .0) (look s) (a .entry) (element p))
-    (ap gives (c .has-tag .ensures ∙ ap₂ sameText (after-text-of-word .text-of-word .ensures (s .args .master .now)) t))
+    (ap gives (c .has-text .ensures ∙ ap₂ sameText (after-text-of-word .text-of-word .ensures (s .args .master .now)) t))
 
 pub test-tagged-spec : {M : Type 1} → statement M
 test-tagged-spec =

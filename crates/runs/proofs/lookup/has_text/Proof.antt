@@ -1,9 +1,9 @@
--- The tag is where its place says, and an empty part has the empty text.
+-- The text is where its place says, and an empty part has the empty text.
 use borrow.Author.Needs.{needs}
 use Rattle.lines.specs.Hex.{hexValue}
 use Rattle.lines.specs.Engine.Starts.{pairAt, bytesFrom, textAt}
-use Rattle.runs.proofs.lookup.has_tag.Statement.{statement}
-use Rattle.runs.proofs.lookup.has_tag.Tie as tie
+use Rattle.runs.proofs.lookup.has_text.Statement.{statement}
+use Rattle.runs.proofs.lookup.has_text.Tie as tie
 
 returns : tie.Need-returns
 returns c = rw (c .before .before .node .given .1) (c .same-text .ensures)
@@ -15,7 +15,7 @@ returns-3 : tie.Need-returns-3
 unfolding textAt pairAt hexValue bytesFrom
 returns-3 c = rw (c .before .before .enum-told .given .1) (c .same-text3 .ensures)
 
-pub has-tag-spec : {M : Type 1} → statement M
-has-tag-spec =
+pub has-text-spec : {M : Type 1} → statement M
+has-text-spec =
     tie.close (tie.spec (λ c. search needs) (λ c κs. search needs) (λ c. search needs) (λ c κs. search needs) (λ c. search needs) (λ c. search needs)
     (λ c. search needs) (λ c. search needs) (λ c κs. search needs) returns returns-2 returns-3)
