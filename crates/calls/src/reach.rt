@@ -7,7 +7,7 @@ use crate::reply::{Reply, Step};
 use crate::run_program::run_program;
 
 // How many entries, master nodes and shown nodes there are; or the refusal.
-#[derive(Drop)]
+#[derive(Clone, Copy)]
 pub enum Reached {
     Shown(usize, usize, usize),
     Refused(Reply),

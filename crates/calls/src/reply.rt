@@ -2,7 +2,7 @@
 ghost use Rattle.std.specs.Prelude.{◌≡◌, ◌<◌};
 ghost use Rattle.calls.specs.Engine.Parts.{replied};
 
-#[derive(Drop)]
+#[derive(Clone, Copy)]
 pub struct Reply {
     pub number: u8,
     pub place: u16,
@@ -10,7 +10,7 @@ pub struct Reply {
 }
 
 // How many lines or nodes there are, or the refusal.
-#[derive(Drop)]
+#[derive(Clone, Copy)]
 pub enum Step {
     Goes(usize),
     Refused(Reply),

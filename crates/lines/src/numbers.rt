@@ -6,7 +6,7 @@ ghost use Rattle.lines.specs.Engine.Starts.{text_at};
 use crate::texts::{byte_at, text_len};
 
 // A text's exact value, or it is no whole number.
-#[derive(Drop)]
+#[derive(Clone, Copy)]
 pub enum Whole {
     Number(i32),
     Missing,

@@ -7,7 +7,7 @@ ghost use Rattle.lines.specs.Engine.Starts.{pairs_end, Scanned};
 use crate::form::{entry_form, node_form};
 use crate::hex::is_hex;
 
-#[derive(Drop)]
+#[derive(Clone, Copy)]
 pub enum File {
     Program,
     Master,
@@ -15,7 +15,7 @@ pub enum File {
 }
 
 // How many lines there are; or the first line of wrong form, or one too many.
-#[derive(Drop)]
+#[derive(Clone, Copy)]
 pub enum Scan {
     Lines(usize),
     Wrong(usize),

@@ -2,14 +2,14 @@
 ghost use Rattle.std.specs.Prelude.{◌≡◌};
 ghost use Rattle.lines.specs.Entries.{class_of, row_of};
 
-#[derive(Drop)]
+#[derive(Clone, Copy)]
 pub enum Class {
     Transformation,
     Test,
     Unknown,
 }
 
-#[derive(Drop)]
+#[derive(Clone, Copy)]
 pub enum Shape {
     Nothing,
     Text,
@@ -19,7 +19,7 @@ pub enum Shape {
 }
 
 // An operation's operand shape, and how many sub-entries it has.
-#[derive(Drop)]
+#[derive(Clone, Copy)]
 pub struct Row(pub Shape, pub u8);
 
 const ROWS: [Row; 20] = [

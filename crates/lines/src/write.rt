@@ -10,7 +10,7 @@ use crate::hex::{digit_at, hex_digit};
 use crate::texts::text_len;
 
 // A line's fields before its text.
-#[derive(Drop)]
+#[derive(Clone, Copy)]
 pub struct Head {
     pub depth: u8,
     pub kind: u8,

@@ -23,7 +23,7 @@ const WORK_PATTERN: u32 = 0x5A5A5A5A;
 
 // The call of a case, the rooms of what is lent to it, and the lengths of its files. Of `work` and `numbers` one is 0:
 // a sweep is lent a second output, the other calls a work slice.
-#[derive(Drop)]
+#[derive(Clone, Copy)]
 struct Head {
     broken: bool,
     call: u8,

@@ -6,7 +6,7 @@ use crate::slots::{SlotWords, bound, no_slots};
 use crate::tree::LEVELS;
 
 // Wide fields first: it is copied at every level.
-#[derive(Drop)]
+#[derive(Clone, Copy)]
 pub struct At {
     pub start: usize,
     pub len: usize,

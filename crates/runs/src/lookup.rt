@@ -18,7 +18,7 @@ use values::nodes::LEVEL;
 pub const PROGRAM: u32 = 0x8000;
 
 // The file and the place of a text; or there is none, and it counts as empty.
-#[derive(Drop)]
+#[derive(Clone, Copy)]
 pub enum Text {
     Master(u32),
     Program(u32),

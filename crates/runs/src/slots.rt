@@ -2,7 +2,7 @@
 ghost use Rattle.std.specs.Prelude.{◌≡◌, ◌<◌, ◌≤◌, length};
 ghost use Rattle.runs.specs.Engine.SlotWords.{no_slots, one_more, bound_to};
 
-#[derive(Drop)]
+#[derive(Clone, Copy)]
 pub struct SlotWords {
     pub starts: [u16; 4],
     pub bytes: [u8; 4],

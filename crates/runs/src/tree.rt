@@ -14,7 +14,7 @@ use lines::table::{Class, class_of, row_of};
 pub const LEVELS: u8 = 12;
 
 // What may still stand below an entry, and the slots bound there.
-#[derive(Drop)]
+#[derive(Clone, Copy)]
 pub struct Room {
     pub eaches: u8,
     pub binds: u8,
@@ -23,7 +23,7 @@ pub struct Room {
 }
 
 // The place behind a subtree, or the first faulty entry.
-#[derive(Drop)]
+#[derive(Clone, Copy)]
 pub enum Checked {
     Next(u8),
     Fault(u8),

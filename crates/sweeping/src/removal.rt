@@ -6,7 +6,7 @@ ghost use Rattle.sweeping.specs.Sweeping.{is_under, goes, behind};
 use lines::fields::{depth_at, mark_at};
 
 // What stands above a line: no deleted node, or one at this depth.
-#[derive(Drop)]
+#[derive(Clone, Copy)]
 pub enum Above {
     Nothing,
     Deleted(u8),

@@ -9,7 +9,7 @@ use lines::fields::{depth_at, kind_at, node_text};
 use lines::write::{Head, write_line};
 
 // The place behind the lines written, and how many they are.
-#[derive(Drop)]
+#[derive(Clone, Copy)]
 pub struct SoFar {
     pub pos: usize,
     pub count: u16,

@@ -10,7 +10,7 @@ pub const MOST_NODES: usize = 128;
 pub const VALUE_ROOM: usize = MOST_NODES;
 
 // Where a value's words lie.
-#[derive(Drop)]
+#[derive(Clone, Copy)]
 pub struct Extent {
     pub start: usize,
     pub len: usize,

@@ -6,7 +6,7 @@ use Rattle.lines.proofs.fields.depth_at.Tie as tie
 
 returns : tie.Need-returns
 unfolding node_at
-returns c = c.pair-at.ensures
+returns c = c.pair_at.ensures
 
 pub depth_at_spec : {M : Type 1} → statement M
 depth_at_spec = tie.close (tie.spec (λ c κs. search rules) returns)

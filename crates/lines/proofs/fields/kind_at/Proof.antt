@@ -6,7 +6,7 @@ use Rattle.lines.proofs.fields.kind_at.Tie as tie
 
 returns : tie.Need-returns
 unfolding node_at
-returns c = c.pair-at.ensures
+returns c = c.pair_at.ensures
 
 pub kind_at_spec : {M : Type 1} → statement M
 kind_at_spec = tie.close (tie.spec (λ c. search rules) (λ c κs. search rules) returns)

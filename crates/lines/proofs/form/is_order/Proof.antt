@@ -19,13 +19,12 @@ module _ (text : List ℕ) {found : Bool} (first : found ≡ same_text text hi_l
   unfolding is_order
   is_second e = or_second (same_text text hi_lo) (same_text text lo_hi) (sym first ∙ e)
 
-returns : tie.Need-returns
-returns c = sym (is_first _ c.before.is_IsWord.ensures c.if1.true)
+returns : tie.Need-returns-then-is_word
+returns c = sym (is_first _ c.is_word.ensures c.if-is_word.true)
 
-returns-2 : tie.Need-returns-2
-returns-2 c = c.is-word2.ensures ∙ sym (is_second _ c.before.before.before.is_IsWord.ensures c.before.before.if1.false)
+returns-2 : tie.Need-returns
+returns-2 c = c.is_word-2.ensures ∙ sym (is_second _ c.is_word.ensures c.if-is_word.false)
 
 pub is_order_spec : {M : Type 1} → statement M
 is_order_spec =
-    tie.close
-    (tie.spec (λ c. search rules) (λ c κs. search rules) returns (λ c. search rules) (λ c κs. search rules) returns-2)
+    tie.close (tie.spec (λ c κs. search rules) returns (λ c κs. search rules) returns-2)

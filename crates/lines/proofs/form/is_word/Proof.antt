@@ -14,11 +14,11 @@ use Rattle.lines.specs.Theorems.Comparing.{length_differs, byte_differs, text_en
 use Rattle.lines.proofs.form.is_word.Statement.{statement}
 use Rattle.lines.proofs.form.is_word.Tie as tie
 
-abbrev invariant-loop : tie.invariant-loop
-invariant-loop d word j₀ j = (j ≤ length word) × (same_text (drop j (decode d)) (drop j word) ≡ true)
+abbrev invariant-loop-j : tie.invariant-loop-j
+invariant-loop-j d word j₀ j = (j ≤ length word) × (same_text (drop j (decode d)) (drop j word) ≡ true)
 
-abbrev decreases-loop : tie.decreases-loop
-decreases-loop d word j₀ j = j
+abbrev decreases-loop-j : tie.decreases-loop-j
+decreases-loop-j d word j₀ j = j
 
 -- the steps, of the pairs d
 module _ (d word : List ℕ) where
@@ -39,29 +39,29 @@ module _ (d word : List ℕ) where
       word_goes_back : x ≡ get_or word (j - 1) 0 → same_text (drop j (decode d)) (drop j word) ≡ true → same_text (drop (j - 1) (decode d)) (drop (j - 1) word) ≡ true
       word_goes_back = text_goes_back (decode d) word j h (omega (arith, length_decode d)) k pair_byte refl
 
-returns : tie.Need-returns invariant-loop decreases-loop
-returns c = sym (number_differs _ _ c.if1.true)
+returns : tie.Need-returns-then-d-word invariant-loop-j decreases-loop-j
+returns c = sym (number_differs _ _ c.if-d-word.true)
 
-loop_holds : tie.Need-loop-init invariant-loop decreases-loop
-loop_holds c = let start = c.before.before.before.args in (omega arith, word_ends start.d.now start.word.now c.if1.false)
+loop_holds : tie.Need-loop-j-init invariant-loop-j decreases-loop-j
+loop_holds c = let start = c.args in (omega arith, word_ends start.d.now start.word.now c.if-d-word.false)
 
-returns-2 : tie.Need-returns-2 invariant-loop decreases-loop
+returns-2 : tie.Need-returns-then-pair_at-word invariant-loop-j decreases-loop-j
 returns-2 c =
-    let at-loop = c.before.before.before.before in
-    sym (word_differs _ _ at-loop.before.if1.false at-loop.loop.j (omega arith) at-loop.loop.invariant.0 c.before.before.pair-at.ensures c.if2.true)
+    let at-loop = c in
+    sym (word_differs _ _ at-loop.if-d-word.false at-loop.loop-j.j (omega arith) at-loop.loop-j.invariant.0 c.pair_at.ensures c.if-pair_at-word.true)
 
-loop_again : tie.Need-loop-preserved invariant-loop decreases-loop
+loop_again : tie.Need-loop-j-preserved invariant-loop-j decreases-loop-j
 loop_again c =
-    let at-loop = c.before.before.before.before in (
+    let at-loop = c in (
       omega arith,
-      word_goes_back _ _ at-loop.before.if1.false at-loop.loop.j (omega arith) at-loop.loop.invariant.0 c.before.before.pair-at.ensures c.if2.false
-          at-loop.loop.invariant.1,
+      word_goes_back _ _ at-loop.if-d-word.false at-loop.loop-j.j (omega arith) at-loop.loop-j.invariant.0 c.pair_at.ensures c.if-pair_at-word.false
+          at-loop.loop-j.invariant.1,
     )
 
-returns-3 : tie.Need-returns-3 invariant-loop decreases-loop
-returns-3 c = sym (text_whole _ _ _ c.loop-test.false c.before.loop.invariant.1)
+returns-3 : tie.Need-returns invariant-loop-j decreases-loop-j
+returns-3 c = sym (text_whole _ _ _ c.loop-j-test.false c.loop-j.invariant.1)
 
 pub is_word_spec : {M : Type 1} → statement M
 is_word_spec =
     tie.close
-    (tie.spec invariant-loop decreases-loop returns loop_holds (λ c. search rules) (λ c. search rules) (λ c κs. search rules) (λ c. search rules) returns-2 (λ c. search rules) loop_again returns-3)
+    (tie.spec invariant-loop-j decreases-loop-j returns loop_holds (λ c. search rules) (λ c. search rules) (λ c κs. search rules) (λ c. search rules) returns-2 (λ c. search rules) loop_again returns-3)

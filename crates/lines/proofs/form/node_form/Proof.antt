@@ -9,49 +9,40 @@ use Rattle.lines.proofs.Forms.{byte_read}
 use Rattle.lines.proofs.form.node_form.Statement.{statement}
 use Rattle.lines.proofs.form.node_form.Tie as tie
 
--- the entry, seen from a later place
-abbrev from_else1 : tie.Else1 → tie.Start
-from_else1 p = p.before.before
-
-returns : tie.Need-returns
+returns : tie.Need-returns-then-n-lt6
 unfolding node_form
-returns c = rw (length_decode, lt-leb 6 _ c.if1.true)
+returns c = rw (length_decode, lt-leb 6 _ c.if-n-lt6.true)
 
-returns-2 : tie.Need-returns-2
+returns-2 : tie.Need-returns-then-n-len
 unfolding node_form
 returns-2 c =
-    let else1 = c.before.before in
-    let len = byte_read (from_else1 else1).args.c.now 5 (omega arith) c.before.pair-at.ensures in
-    rw (length_decode, le-leb 6 _ else1.if1.false, len, ne_eqb _ _ c.if2.true)
+    let len = byte_read c.args.c.now 5 (omega arith) c.pair_at-len.ensures in
+    rw (length_decode, le-leb 6 _ c.if-n-lt6.false, len, ne_eqb _ _ c.if-n-len.true)
 
-returns-3 : tie.Need-returns-3
+returns-3 : tie.Need-returns-then-len-gt32
 unfolding node_form
 returns-3 c =
-    let else1 = c.before.before.before in
-    let len = byte_read (from_else1 else1).args.c.now 5 (omega arith) c.before.before.pair-at.ensures in
-    rw (length_decode, le-leb 6 _ else1.if1.false, len, eq-eqb _ _ c.before.if2.false, lt-leb _ 32 c.if3.true)
+    let len = byte_read c.args.c.now 5 (omega arith) c.pair_at-len.ensures in
+    rw (length_decode, le-leb 6 _ c.if-n-lt6.false, len, eq-eqb _ _ c.if-n-len.false, lt-leb _ 32 c.if-len-gt32.true)
 
-returns-4 : tie.Need-returns-4
+returns-4 : tie.Need-returns
 unfolding node_form
 returns-4 c =
-    let after-pair-at2 = c.before.before.before in
-    let else2 = after-pair-at2.before.before in
-    let else1 = else2.before.before in
-    let line = (from_else1 else1).args.c.now in
-    let len = byte_read line 5 (omega arith) else2.before.pair-at.ensures in
-    let kind = byte_read line 1 (omega arith) after-pair-at2.pair-at2.ensures in
-    let mark = byte_read line 2 (omega arith) c.before.before.pair-at3.ensures in
+    let line = c.args.c.now in
+    let len = byte_read line 5 (omega arith) c.pair_at-len.ensures in
+    let kind = byte_read line 1 (omega arith) c.pair_at.ensures in
+    let mark = byte_read line 2 (omega arith) c.pair_at-2.ensures in
     rw (
       length_decode,
-      le-leb 6 _ else1.if1.false,
+      le-leb 6 _ c.if-n-lt6.false,
       len,
-      eq-eqb _ _ else2.if2.false,
-      le-leb _ 32 after-pair-at2.before.if3.false,
+      eq-eqb _ _ c.if-n-len.false,
+      le-leb _ 32 c.if-len-gt32.false,
       kind,
       mark,
       drop_decode 6 line,
       ← take_rest 12 line,
-    ) c.kind-rule.ensures
+    ) c.kind_rule.ensures
 
 pub node_form_spec : {M : Type 1} → statement M
 node_form_spec =

@@ -19,47 +19,42 @@ use Rattle.lines.proofs.form.operand_form.Tie as tie
 text_two : (d : List ℕ) → text_form (decode d) ≡ true → 2 ≤ length d
 text_two d e = omega (arith, text_some (decode d) e, length_decode d)
 
--- the entry, seen from a later place
-abbrev from_text_form2 : tie.After-text-form2 → tie.Start
-from_text_form2 p = p.before.before.before.before
-
-returns : tie.Need-returns
+returns : tie.Need-returns-then-not-text_form
 unfolding operand_form
-returns c = rw (c.before.before.enum-told3.given.1, sym c.before.text-form2.ensures ∙ not-true _ c.if1.true)
+returns c = rw (c.in-Tag.is, sym c.text_form-in-Tag.ensures ∙ not-true _ c.if-not-text_form.true-raw)
 
-sub_is_tag : tie.Need-overflow-sub-is-tag
-sub_is_tag c = omega (arith, text_two (from_text_form2 c.before).args.d.now (sym c.before.text-form2.ensures ∙ not-false _ c.if1.false))
+sub_is_tag : tie.Need-slice_bounds-is_tag-count
+sub_is_tag c = omega (arith, text_two c.before.args.d.now (sym c.text_form-in-Tag.ensures ∙ not-false _ c.if-not-text_form.false-raw))
 
-part_is_tag_start : tie.Need-slice-bounds-is-tag-start
+part_is_tag_start : tie.Need-slice_bounds-is_tag-start
 part_is_tag_start c =
-    omega (arith, text_two (from_text_form2 c.before).args.d.now (sym c.before.text-form2.ensures ∙ not-false _ c.if1.false))
+    omega (arith, text_two c.before.args.d.now (sym c.text_form-in-Tag.ensures ∙ not-false _ c.if-not-text_form.false-raw))
 
-returns-2 : tie.Need-returns-2
+returns-2 : tie.Need-returns-in-Nothing
 unfolding operand_form
-returns-2 c = rw (c.enum_told.given.1, length_decode)
+returns-2 c = rw (c.in-Nothing.is, length_decode)
 
-returns-3 : tie.Need-returns-3
+returns-3 : tie.Need-returns-in-Text
 unfolding operand_form
-returns-3 c = rw c.before.enum-told2.given.1 c.text-form.ensures
+returns-3 c = rw c.in-Text.is c.text_form.ensures
 
-returns-4 : tie.Need-returns-4
+returns-4 : tie.Need-returns-else-not-text_form
 unfolding operand_form
 returns-4 c =
-    let after-text-form2 = c.before.before.before in
     rw (
-      after-text-form2.before.enum-told3.given.1,
-      sym after-text-form2.text-form2.ensures ∙ not-false _ c.before.before.if1.false,
+      c.in-Tag.is,
+      sym c.text_form-in-Tag.ensures ∙ not-false _ c.if-not-text_form.false-raw,
       drop_decode 1,
       ← take_rest 2,
-    ) c.is-tag.ensures
+    ) c.is_tag.ensures
 
-returns-5 : tie.Need-returns-5
+returns-5 : tie.Need-returns-in-Slot
 unfolding operand_form
-returns-5 c = rw (c.enum-told4.given.1, length_decode)
+returns-5 c = rw (c.in-Slot.is, length_decode)
 
-returns-6 : tie.Need-returns-6
+returns-6 : tie.Need-returns-in-Missing
 unfolding operand_form
-returns-6 c = rw c.enum-told5.given.1
+returns-6 c = rw c.in-Missing.is
 
 pub operand_form_spec : {M : Type 1} → statement M
 operand_form_spec =

@@ -13,15 +13,15 @@ nought : (x : ℕ) → is_hex x ≡ false → 0x30 ≡ hex_digit (hex_value x)
 unfolding hex_digit
 nought x e = rw (no_value x e)
 
-returns : tie.Need-returns
+returns : tie.Need-returns-then-s-p
 unfolding is_hex
-returns c = rw (get_or-eq_default c.before.before.args.s.now 0 c.if1.true) (nought 0 refl)
+returns c = rw (get_or-eq_default c.args.s.now 0 c.if-s-p.true) (nought 0 refl)
 
-returns-2 : tie.Need-returns-2
-returns-2 c = sym (digit_value _ (sym c.before.before.is-hex.ensures ∙ c.before.if2.true))
+returns-2 : tie.Need-returns-then-is_hex
+returns-2 c = sym (digit_value _ (sym c.is_hex.ensures ∙ c.if-is_hex.true))
 
-returns-3 : tie.Need-returns-3
-returns-3 c = nought _ (sym c.before.is-hex.ensures ∙ c.if2.false)
+returns-3 : tie.Need-returns
+returns-3 c = nought _ (sym c.is_hex.ensures ∙ c.if-is_hex.false)
 
 pub digit_at_spec : {M : Type 1} → statement M
 digit_at_spec = tie.close (tie.spec returns (λ c. search rules) (λ c κs. search rules) (λ c. search rules) returns-2 returns-3)

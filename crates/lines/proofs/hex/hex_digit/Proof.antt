@@ -5,17 +5,17 @@ use Rattle.lines.specs.Hex.{hex_digit}
 use Rattle.lines.proofs.hex.hex_digit.Statement.{statement}
 use Rattle.lines.proofs.hex.hex_digit.Tie as tie
 
-returns : tie.Need-returns
+returns : tie.Need-returns-then-n-lt10
 unfolding hex_digit
-returns c = rw (lt-ltb _ 10 c.if1.true)
+returns c = rw (lt-ltb _ 10 c.if-n-lt10.true)
 
-returns-2 : tie.Need-returns-2
+returns-2 : tie.Need-returns-then-n-lt16
 unfolding hex_digit
-returns-2 c = rw (le-ltb _ 10 c.before.if1.false, lt-ltb _ 16 c.if2.true)
+returns-2 c = rw (le-ltb _ 10 c.if-n-lt10.false, lt-ltb _ 16 c.if-n-lt16.true)
 
-returns-3 : tie.Need-returns-3
+returns-3 : tie.Need-returns
 unfolding hex_digit
-returns-3 c = rw (le-ltb _ 10 c.before.if1.false, le-ltb _ 16 c.if2.false)
+returns-3 c = rw (le-ltb _ 10 c.if-n-lt10.false, le-ltb _ 16 c.if-n-lt16.false)
 
 pub hex_digit_spec : {M : Type 1} → statement M
 hex_digit_spec =

@@ -19,7 +19,7 @@ value_of_row b = go (is_hex b) refl
     go false e = sym (no_value b e)
 
 returns : tie.Need-returns
-returns c = rw c.digit-row.ensures (value_of_row c.before.args.b)
+returns c = rw c.digit_row.ensures (value_of_row c.args.b)
 
 pub hex_value_spec : {M : Type 1} → statement M
 hex_value_spec = tie.close (tie.spec (λ c κs. search rules) returns)

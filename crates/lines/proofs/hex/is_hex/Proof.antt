@@ -17,7 +17,7 @@ told false v = refl
 
 returns : tie.Need-returns
 unfolding digit_row
-returns c = rw c.digit-row.ensures (told (is_hex c.before.args.b) (hex_value c.before.args.b))
+returns c = rw c.digit_row.ensures (told (is_hex c.args.b) (hex_value c.args.b))
 
 pub is_hex_spec : {M : Type 1} → statement M
 is_hex_spec = tie.close (tie.spec (λ c κs. search rules) returns)

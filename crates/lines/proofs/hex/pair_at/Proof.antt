@@ -15,36 +15,36 @@ no_digit : hex_value 0 ≡ 0
 unfolding hex_value
 no_digit = refl
 
-returns : tie.Need-returns
+returns : tie.Need-returns-then-s-p
 unfolding pair_at hex_value
 returns c =
-    let entry = c.before.before in
+    let entry = c in
     let s = entry.args.s.now in
     let p = entry.args.p in
-    rw (get_or-eq_default s 0 {n = p} c.if1.true, get_or-eq_default s 0 {n = suc p} (omega arith))
+    rw (get_or-eq_default s 0 {n = p} c.if-s-p.true, get_or-eq_default s 0 {n = suc p} (omega arith))
 
-mul_result : tie.Need-overflow-mul-result
-mul_result c = let a = c.before.before.before.before.before.args in omega (arith, value_small (get_or a.s.now a.p 0))
+mul_result : tie.Need-overflow_mul-result
+mul_result c = let a = c.args in omega (arith, value_small (get_or a.s.now a.p 0))
 
-returns-2 : tie.Need-returns-2
+returns-2 : tie.Need-returns-then-s-p-lt2
 unfolding pair_at
 returns-2 c =
-    let entry = c.before.before.before.before.before in
+    let entry = c in
     let s = entry.args.s.now in
     let p = entry.args.p in
     let z : hex_value (get_or s (suc p) 0) ≡ 0 = rw (get_or-eq_default s 0 {n = suc p} (omega arith)) no_digit in
     omega arith
 
-mul_result_2 : tie.Need-overflow-mul-result-2
-mul_result_2 c = let a = c.before.before.before.before.before.args in omega (arith, value_small (get_or a.s.now a.p 0))
+mul_result_2 : tie.Need-overflow_mul-result-2
+mul_result_2 c = let a = c.args in omega (arith, value_small (get_or a.s.now a.p 0))
 
-add_result : tie.Need-overflow-add-result
-add_result c = let a = c.before.before.before.before.before.before.before.args in omega (arith, value_small (get_or a.s.now a.p 0), value_small (get_or a.s.now (a.p + 1) 0))
+add_result : tie.Need-overflow_add-result
+add_result c = let a = c.args in omega (arith, value_small (get_or a.s.now a.p 0), value_small (get_or a.s.now (a.p + 1) 0))
 
-returns-3 : tie.Need-returns-3
+returns-3 : tie.Need-returns
 unfolding pair_at
 returns-3 c =
-    let entry = c.before.before.before.before.before.before.before in
+    let entry = c in
     let s = entry.args.s.now in
     let p = entry.args.p in
     let z : hex_value (get_or s (suc p) 0) ≡ hex_value (get_or s (p + 1) 0) = ap (λ (k : ℕ). hex_value (get_or s k 0)) (sym (add-one p)) in

@@ -14,67 +14,54 @@ use Rattle.lines.proofs.Masters.{bounds_fault, bounds_more, bounds_end, placed_l
 use Rattle.lines.proofs.master.bounds.Statement.{statement}
 use Rattle.lines.proofs.master.bounds.Tie as tie
 
-abbrev invariant-loop : tie.invariant-loop
-invariant-loop s starts most₀ k₀ most k = (k ≤ length starts) × (bounds_from most k (lines_of s (drop k starts)) ≡ master_bounds (lines_of s starts))
+abbrev invariant-loop-k : tie.invariant-loop-k
+invariant-loop-k s starts most₀ k₀ most k = (k ≤ length starts) × (bounds_from most k (lines_of s (drop k starts)) ≡ master_bounds (lines_of s starts))
 
-abbrev decreases-loop : tie.decreases-loop
-decreases-loop s starts most₀ k₀ most k = length starts - k
+abbrev decreases-loop-k : tie.decreases-loop-k
+decreases-loop-k s starts most₀ k₀ most k = length starts - k
 
--- the entry, seen from a later place
-abbrev from_loop : tie.At-loop invariant-loop decreases-loop → tie.Start invariant-loop decreases-loop
-from_loop p = p.before.before.before
-
-loop_holds : tie.Need-loop-init invariant-loop decreases-loop
+loop_holds : tie.Need-loop-k-init invariant-loop-k decreases-loop-k
 unfolding master_bounds
 loop_holds c = (omega arith, refl)
 
-returns : tie.Need-returns invariant-loop decreases-loop
+returns : tie.Need-returns-then-not-is_placed invariant-loop-k decreases-loop-k
 returns c =
-    let in-loop = c.before.before.before in
-    let at-loop = in-loop.before in
-    let a = (from_loop at-loop).args in
-    let here = nodes_one (node_at a.s.now) a.starts.now at-loop.loop.k in-loop.loop-test.true in
-    sym (rw here (bounds_fault at-loop.loop.most at-loop.loop.k _ _ (sym c.before.is-placed.ensures ∙ not-true _ c.if1.true))) ∙ at-loop.loop.invariant.1
+    let a = c.args in
+    let here = nodes_one (node_at a.s.now) a.starts.now c.loop-k.k c.loop-k-test.true in
+    sym (rw here (bounds_fault c.loop-k.most c.loop-k.k _ _ (sym c.is_placed.ensures ∙ not-true _ c.if-not-is_placed.true-raw))) ∙ c.loop-k.invariant.1
 
-add_most : tie.Need-overflow-add-most invariant-loop decreases-loop
+add_most : tie.Need-overflow_add-most invariant-loop-k decreases-loop-k
 add_most c =
-    let after-depth-at = c.before.before.before in
-    let at-loop = after-depth-at.before.before.before.before.before in
-    let a = (from_loop at-loop).args in
-    let n = node_at a.s.now (get_or a.starts.now at-loop.loop.k 0) in
+    let a = c.args in
+    let n = node_at a.s.now (get_or a.starts.now c.loop-k.k 0) in
     omega (
       arith,
-      placed_low at-loop.loop.most at-loop.loop.k n
-          (sym after-depth-at.before.before.is-placed.ensures ∙ not-false _ after-depth-at.before.if1.false),
-      after-depth-at.depth-at.ensures,
+      placed_low c.loop-k.most c.loop-k.k n
+          (sym c.is_placed.ensures ∙ not-false _ c.if-not-is_placed.false-raw),
+      c.depth_at-most.ensures,
     )
 
-loop_again : tie.Need-loop-preserved invariant-loop decreases-loop
+loop_again : tie.Need-loop-k-preserved invariant-loop-k decreases-loop-k
 unfolding depth_after
 loop_again c =
-    let after-is-element = c.before in
-    let after-depth-at = after-is-element.before.before in
-    let in-loop = after-depth-at.before.before.before.before in
-    let at-loop = in-loop.before in
-    let a = (from_loop at-loop).args in
-    let n = node_at a.s.now (get_or a.starts.now at-loop.loop.k 0) in
-    let here = nodes_one (node_at a.s.now) a.starts.now at-loop.loop.k in-loop.loop-test.true in
-    let good = sym after-depth-at.before.before.is-placed.ensures ∙ not-false _ after-depth-at.before.if1.false in
-    let element : is_element n.kind ≡ c.before.is-element.result = ap is_element (sym after-is-element.before.kind_at.ensures) ∙ sym
-    after-is-element.is-element.ensures in
-    let after : c.if2.most ≡ depth_after n = ⊎_elim
-    (λ w. rw (element, w.0.taken) (w.1 ∙ ap (λ (x : ℕ). x + 1) after-depth-at.depth-at.ensures))
-    (λ w. rw (element, w.0.left) (w.1 ∙ after-depth-at.depth-at.ensures)) c.if2.branch in
-    (omega arith, rw after (sym (rw here (bounds_more at-loop.loop.most at-loop.loop.k _ _ good)) ∙ at-loop.loop.invariant.1))
+    let a = c.args in
+    let n = node_at a.s.now (get_or a.starts.now c.loop-k.k 0) in
+    let here = nodes_one (node_at a.s.now) a.starts.now c.loop-k.k c.loop-k-test.true in
+    let good = sym c.is_placed.ensures ∙ not-false _ c.if-not-is_placed.false-raw in
+    let element : is_element n.kind ≡ c.is_element.result = ap is_element (sym c.kind_at.ensures) ∙ sym
+    c.is_element.ensures in
+    let after : c.if-is_element.most ≡ depth_after n = ⊎_elim
+    (λ w. rw (element, w.if-is_element.true) (w.most-is ∙ ap (λ (x : ℕ). x + 1) c.depth_at-most.ensures))
+    (λ w. rw (element, w.if-is_element.false) (w.most-is ∙ c.depth_at-most.ensures)) c.if-is_element.branch-raw in
+    (omega arith, rw after (sym (rw here (bounds_more c.loop-k.most c.loop-k.k _ _ good)) ∙ c.loop-k.invariant.1))
 
-returns-2 : tie.Need-returns-2 invariant-loop decreases-loop
+returns-2 : tie.Need-returns invariant-loop-k decreases-loop-k
 returns-2 c =
-    let at-loop = c.before in
-    let a = (from_loop at-loop).args in
-    sym (rw (nodes_none (node_at a.s.now) a.starts.now at-loop.loop.k c.loop-test.false)
-    (bounds_end at-loop.loop.most at-loop.loop.k)) ∙ at-loop.loop.invariant.1
+    let a = c.args in
+    sym (rw (nodes_none (node_at a.s.now) a.starts.now c.loop-k.k c.loop-k-test.false)
+    (bounds_end c.loop-k.most c.loop-k.k)) ∙ c.loop-k.invariant.1
 
 pub bounds_spec : {M : Type 1} → statement M
 bounds_spec =
-    tie.close (tie.spec invariant-loop decreases-loop loop_holds (λ c. search rules) (λ c. search rules) (λ c κs. search rules) returns (λ c κs. search rules)
+    tie.close (tie.spec invariant-loop-k decreases-loop-k loop_holds (λ c. search rules) (λ c. search rules) (λ c κs. search rules) returns (λ c κs. search rules)
     (λ c κs. search rules) (λ c κs. search rules) add_most (λ c. search rules) (λ c. search rules) loop_again returns-2)

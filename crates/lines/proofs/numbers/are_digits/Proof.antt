@@ -18,11 +18,11 @@ use Rattle.lines.proofs.numbers.are_digits.Tie as tie
 abbrev digits_from : List ℕ → ℕ → Bool
 digits_from t j = all_of (between 0x30 0x39) (drop j t)
 
-abbrev invariant-loop : tie.invariant-loop
-invariant-loop s at from n j₀ j = (from ≤ j) × (j ≤ n) × (digits_from (text_at s at) j ≡ digits_from (text_at s at) from)
+abbrev invariant-loop-j : tie.invariant-loop-j
+invariant-loop-j s at from n j₀ j = (from ≤ j) × (j ≤ n) × (digits_from (text_at s at) j ≡ digits_from (text_at s at) from)
 
-abbrev decreases-loop : tie.decreases-loop
-decreases-loop s at from n j₀ j = n - j
+abbrev decreases-loop-j : tie.decreases-loop-j
+decreases-loop-j s at from n j₀ j = n - j
 
 module _ (t : List ℕ) (from : ℕ) where
   too_few : length t ≤ from → false ≡ are_digits (drop from t)
@@ -53,55 +53,55 @@ unfolding all_of
 no_more t j h = rw (drop_of_length-le t h)
 
 -- the text, and where its digits begin
-abbrev text : tie.Start invariant-loop decreases-loop → List ℕ
+abbrev text : tie.Start invariant-loop-j decreases-loop-j → List ℕ
 text s = text_at s.args.s.now s.args.at
 
-returns : tie.Need-returns invariant-loop decreases-loop
-returns c = let s = c.before.before.before in too_few (text s) s.args.from (omega (arith, c.before.text-len.ensures))
+returns : tie.Need-returns-then-n-from invariant-loop-j decreases-loop-j
+returns c = let s = c.before.before.before in too_few (text s) s.args.from (omega (arith, c.text_len-n.ensures))
 
-returns-2 : tie.Need-returns-2 invariant-loop decreases-loop
-returns-2 c = let s = c.before.before.before.before in too_many (text s) s.args.from (omega (arith, c.before.before.text-len.ensures))
+returns-2 : tie.Need-returns-then-n-from-gt9 invariant-loop-j decreases-loop-j
+returns-2 c = let s = c.before.before.before.before in too_many (text s) s.args.from (omega (arith, c.text_len-n.ensures))
 
-loop_holds : tie.Need-loop-init invariant-loop decreases-loop
+loop_holds : tie.Need-loop-j-init invariant-loop-j decreases-loop-j
 loop_holds c = (omega arith, omega arith, refl)
 
-byte-at-requires : tie.Need-byte-at-requires invariant-loop decreases-loop
-byte-at-requires c κs = omega (arith, c.before.before.before.before.text-len.ensures)
+byte-at-requires : tie.Need-byte_at-b-requires invariant-loop-j decreases-loop-j
+byte-at-requires c κs = omega (arith, c.text_len-n.ensures)
 
-returns-3 : tie.Need-returns-3 invariant-loop decreases-loop
+returns-3 : tie.Need-returns-then-b-lt48 invariant-loop-j decreases-loop-j
 returns-3 c =
     let s = c.before.before.before.before.before.before.before.before in
-    let l = c.before.before.before.loop in
-    let many = c.before.before.before.before.before.before.text-len.ensures in
+    let l = c.loop-j in
+    let many = c.text_len-n.ensures in
     decided (text s) s.args.from l.j (omega arith, omega arith) l.invariant.2 false
-    (byte_first (text s) l.j (omega arith) c.before.byte_at.ensures ∙ rw (lt-leb 0x30 _ c.if3.true))
+    (byte_first (text s) l.j (omega arith) c.byte_at-b.ensures ∙ rw (lt-leb 0x30 _ c.if-b-lt48.true))
 
-returns-4 : tie.Need-returns-4 invariant-loop decreases-loop
+returns-4 : tie.Need-returns-then-b-gt57 invariant-loop-j decreases-loop-j
 returns-4 c =
     let s = c.before.before.before.before.before.before.before.before.before in
-    let l = c.before.before.before.before.loop in
-    let many = c.before.before.before.before.before.before.before.text-len.ensures in
+    let l = c.loop-j in
+    let many = c.text_len-n.ensures in
     decided (text s) s.args.from l.j (omega arith, omega arith) l.invariant.2 false
-    (byte_first (text s) l.j (omega arith) c.before.before.byte_at.ensures ∙ rw (le-leb 0x30 _ c.before.if3.false, lt-leb _ 0x39 c.if4.true))
+    (byte_first (text s) l.j (omega arith) c.byte_at-b.ensures ∙ rw (le-leb 0x30 _ c.if-b-lt48.false, lt-leb _ 0x39 c.if-b-gt57.true))
 
-loop_again : tie.Need-loop-preserved invariant-loop decreases-loop
+loop_again : tie.Need-loop-j-preserved invariant-loop-j decreases-loop-j
 loop_again c =
     let s = c.before.before.before.before.before.before.before.before.before in
-    let l = c.before.before.before.before.loop in
-    let many = c.before.before.before.before.before.before.before.text-len.ensures in (
+    let l = c.loop-j in
+    let many = c.text_len-n.ensures in (
       omega arith,
       omega arith,
-      sym (byte_first (text s) l.j (omega arith) c.before.before.byte_at.ensures ∙ rw (le-leb 0x30 _ c.before.if3.false, le-leb _ 0x39 c.if4.false)) ∙ l.invariant.2,
+      sym (byte_first (text s) l.j (omega arith) c.byte_at-b.ensures ∙ rw (le-leb 0x30 _ c.if-b-lt48.false, le-leb _ 0x39 c.if-b-gt57.false)) ∙ l.invariant.2,
     )
 
-returns-5 : tie.Need-returns-5 invariant-loop decreases-loop
+returns-5 : tie.Need-returns invariant-loop-j decreases-loop-j
 returns-5 c =
     let s = c.before.before.before.before.before.before in
-    let l = c.before.loop in
-    let many = c.before.before.before.before.text-len.ensures in
+    let l = c.loop-j in
+    let many = c.text_len-n.ensures in
     decided (text s) s.args.from l.j (omega arith, omega arith) l.invariant.2 true (no_more (text s) l.j (omega arith))
 
 pub are_digits_spec : {M : Type 1} → statement M
 are_digits_spec =
-    tie.close (tie.spec invariant-loop decreases-loop (λ c κs. search rules) returns (λ c. search rules) returns-2 loop_holds byte-at-requires returns-3 returns-4
+    tie.close (tie.spec invariant-loop-j decreases-loop-j (λ c κs. search rules) returns (λ c. search rules) returns-2 loop_holds byte-at-requires returns-3 returns-4
     (λ c. search rules) (λ c. search rules) loop_again returns-5)

@@ -21,13 +21,13 @@ unfolding has_minus
 first [] h e = absurd (omega arith)
 first (y ∷ t) h e = rw e
 
-returns : tie.Need-returns
+returns : tie.Need-returns-then-text_len-eq0
 returns c = none _ (omega arith)
 
-byte-at-requires : tie.Need-byte-at-requires
+byte-at-requires : tie.Need-byte_at-requires
 byte-at-requires c κs = omega arith
 
-returns-2 : tie.Need-returns-2
+returns-2 : tie.Need-returns
 returns-2 c = first _ (omega arith) c.byte_at.ensures
 
 pub has_minus_spec : {M : Type 1} → statement M

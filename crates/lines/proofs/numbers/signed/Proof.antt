@@ -26,19 +26,19 @@ negative_fits (suc n) h = record { sfits = omega arith }
 taken_fits : (n : ℕ) → n < 1000000000 → SFits w32 (pos 0 -ℤ to_z w32 n)
 taken_fits n h = rw (positive n h, from_zero n) (negative_fits n h)
 
-sub_result : tie.Need-overflow-sub-result
-sub_result c = taken_fits _ c.before.requires
+sub_result : tie.Need-overflow_sub-result
+sub_result c = taken_fits _ c.requires
 
-returns : tie.Need-returns
+returns : tie.Need-returns-then-minus
 unfolding signed
 returns c =
-    let n = c.before.args.size in
-    let h = c.before.requires in
-    to_z-of_z w32 (pos 0 -ℤ to_z w32 n) (taken_fits n h) ∙ rw (positive n h, c.if1.true) (from_zero n)
+    let n = c.args.size in
+    let h = c.requires in
+    to_z-of_z w32 (pos 0 -ℤ to_z w32 n) (taken_fits n h) ∙ rw (positive n h, c.if-minus.true) (from_zero n)
 
-returns-2 : tie.Need-returns-2
+returns-2 : tie.Need-returns
 unfolding signed
-returns-2 c = rw c.if1.false (positive c.before.args.size c.before.requires)
+returns-2 c = rw c.if-minus.false (positive c.args.size c.requires)
 
 pub signed_spec : {M : Type 1} → statement M
 signed_spec = tie.close (tie.spec (λ c. search rules) sub_result returns (λ c. search rules) returns-2)

@@ -29,27 +29,27 @@ begins t {b} e = go b e
 abbrev text : tie.Start → List ℕ
 text s = text_at s.args.s.now s.args.at
 
-returns : tie.Need-returns
+returns : tie.Need-returns-then-not-are_digits
 returns c =
     let t = text c.before.before.before.before in
-    sym (none_outside t (ap are_digits (sym (begins t c.before.before.has-minus.ensures)) ∙ (sym c.before.are-digits.ensures ∙ not-true _ c.if1.true)))
+    sym (none_outside t (ap are_digits (sym (begins t c.has_minus-minus.ensures)) ∙ (sym c.are_digits.ensures ∙ not-true _ c.if-not-are_digits.true-raw)))
 
 -- where there are digits
-found : (p : tie.Else1) → are_digits (drop (bool_byte p.before.before.has-minus.result) (text p.before.before.before.before)) ≡ true
-found p = sym p.before.are-digits.ensures ∙ not-false _ p.if1.false
+found : (p : tie.Else-not-are_digits) → are_digits (drop (bool_byte p.has_minus-minus.result) (text p.before.before.before.before)) ≡ true
+found p = sym p.are_digits.ensures ∙ not-false _ p.if-not-are_digits.false-raw
 
-digits-value-requires : tie.Need-digits-value-requires
+digits-value-requires : tie.Need-digits_value-requires
 digits-value-requires c κs = found c
 
 signed-requires : tie.Need-signed-requires
 signed-requires c κs = let value = c.digits_value.ensures in let most = digits_most _ (found c.before) in omega arith
 
-returns-2 : tie.Need-returns-2
+returns-2 : tie.Need-returns
 returns-2 c =
     let t = text c.before.before.before.before.before.before in
-    let minus = c.before.before.before.before.has-minus.ensures in
+    let minus = c.has_minus-minus.ensures in
     let from = begins t minus in
-    let size = c.before.digits_value.ensures ∙ ap (digits_value 0) from in
+    let size = c.digits_value.ensures ∙ ap (digits_value 0) from in
     ap (λ (n : ℤ). Number n) (to_z-of_z w32 c.signed.result (search rules) ∙ (c.signed.ensures ∙ ap₂ signed minus size))
     ∙ sym (some_inside t (sym (ap are_digits from) ∙ found c.before.before))
 

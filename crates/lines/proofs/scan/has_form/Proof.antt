@@ -5,17 +5,17 @@ use Rattle.lines.proofs.Forms.{node_decides, entry_decides}
 use Rattle.lines.proofs.scan.has_form.Statement.{statement}
 use Rattle.lines.proofs.scan.has_form.Tie as tie
 
-returns : tie.Need-returns
+returns : tie.Need-returns-in-Program
 unfolding form_of
-returns c = rw (c.before.enum_told.given.1, entry_decides _ c.before.before.before.before.requires) c.entry-form.ensures
+returns c = rw (c.in-Program.is, entry_decides _ c.requires) c.entry_form.ensures
 
-returns-2 : tie.Need-returns-2
+returns-2 : tie.Need-returns-in-Master
 unfolding form_of
-returns-2 c = rw (c.before.enum-told2.given.1, node_decides _ c.before.before.before.before.requires) c.node-form.ensures
+returns-2 c = rw (c.in-Master.is, node_decides _ c.requires) c.node_form.ensures
 
-returns-3 : tie.Need-returns-3
+returns-3 : tie.Need-returns-in-View
 unfolding form_of
-returns-3 c = rw (c.before.enum-told3.given.1, node_decides _ c.before.before.before.before.requires) c.node-form2.ensures
+returns-3 c = rw (c.in-View.is, node_decides _ c.requires) c.node_form-in-View.ensures
 
 pub has_form_spec : {M : Type 1} → statement M
 has_form_spec =

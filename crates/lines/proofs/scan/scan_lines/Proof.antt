@@ -68,40 +68,40 @@ module _ {file : File} {s before : List ℕ} {limit : ℕ} {noted : List ℕ} {n
         so_far = rw (add-one, here.so_far) (note_more n _ before at _ first room.space);
       }
 
-abbrev invariant-loop : tie.invariant-loop
-invariant-loop file s starts₀ limit n₀ at₀ starts n at = At file s starts₀ limit starts n at
+abbrev invariant-loop-at : tie.invariant-loop-at
+invariant-loop-at file s starts₀ limit n₀ at₀ starts n at = At file s starts₀ limit starts n at
 
-abbrev decreases-loop : tie.decreases-loop
-decreases-loop file s starts₀ limit n₀ at₀ starts n at = length s - at
+abbrev decreases-loop-at : tie.decreases-loop-at
+decreases-loop-at file s starts₀ limit n₀ at₀ starts n at = length s - at
 
 -- earlier places, seen from later ones
-abbrev from_loop : tie.At-loop invariant-loop decreases-loop → tie.Start invariant-loop decreases-loop
+abbrev from_loop : tie.At-loop-at invariant-loop-at decreases-loop-at → tie.Start invariant-loop-at decreases-loop-at
 from_loop p = p.before.before.before.before
 
-abbrev from_else1 : tie.Else1 invariant-loop decreases-loop → tie.At-loop invariant-loop decreases-loop
+abbrev from_else1 : tie.Else-n-limit invariant-loop-at decreases-loop-at → tie.At-loop-at invariant-loop-at decreases-loop-at
 from_else1 p = p.before.before
 
-abbrev from_else2 : tie.Else2 invariant-loop decreases-loop → tie.Else1 invariant-loop decreases-loop
+abbrev from_else2 : tie.Else-end-at invariant-loop-at decreases-loop-at → tie.Else-n-limit invariant-loop-at decreases-loop-at
 from_else2 p = p.before.before
 
-abbrev from_else3 : tie.Else3 invariant-loop decreases-loop → tie.Else2 invariant-loop decreases-loop
+abbrev from_else3 : tie.Else-not-has_form invariant-loop-at decreases-loop-at → tie.Else-end-at invariant-loop-at decreases-loop-at
 from_else3 p = p.before.before.before
 
 -- there is room behind the first test
-room : (p : tie.Else1 invariant-loop decreases-loop)
-    → Room (from_loop (from_else1 p)).args.starts.now (from_else1 p).before.limit-of.result (from_else1 p).loop.n
-room p = roomy (from_else1 p).loop.invariant (from_loop (from_else1 p)).pre p.if1.false
+room : (p : tie.Else-n-limit invariant-loop-at decreases-loop-at)
+    → Room (from_loop (from_else1 p)).args.starts.now (from_else1 p).limit_of-limit.result (from_else1 p).loop-at.n
+room p = roomy (from_else1 p).loop-at.invariant (from_loop (from_else1 p)).requires p.if-n-limit.false
 
 -- and behind the second a line of whole pairs and 0A
-whole : (p : tie.Else2 invariant-loop decreases-loop)
-    → Ended (from_loop (from_else1 (from_else2 p))).args.s.now (from_else1 (from_else2 p)).loop.at p.before.line-end.result
-whole p = ended _ _ (from_else2 p).before.loop-test.true _ p.before.line-end.ensures p.if2.false
+whole : (p : tie.Else-end-at invariant-loop-at decreases-loop-at)
+    → Ended (from_loop (from_else1 (from_else2 p))).args.s.now (from_else1 (from_else2 p)).loop-at.at p.line_end-end.result
+whole p = ended _ _ (from_else2 p).loop-at-test.true _ p.line_end-end.ensures p.if-end-at.false
 
-loop_holds : tie.Need-loop-init invariant-loop decreases-loop
+loop_holds : tie.Need-loop-at-init invariant-loop-at decreases-loop-at
 unfolding cut
 loop_holds c =
     record {
-      limited = c.limit-of.ensures;
+      limited = c.limit_of-limit.ensures;
       within = omega arith;
       short = omega arith;
       below = omega arith;
@@ -111,75 +111,75 @@ loop_holds c =
       so_far = refl;
     }
 
-same_length : tie.Need-same-length invariant-loop decreases-loop
-same_length c = c.before.before.loop.invariant.long
+same_length : tie.Need-shape_of-starts-then-n-limit invariant-loop-at decreases-loop-at
+same_length c = c.loop-at.invariant.long
 
-returns : tie.Need-returns invariant-loop decreases-loop
-returns c = answered c.before.before.loop.invariant (cut_from _ _ c.before.loop-test.true) (scan_full _ _ _ _ _ (omega arith)) refl
+returns : tie.Need-returns-then-n-limit invariant-loop-at decreases-loop-at
+returns c = answered c.loop-at.invariant (cut_from _ _ c.loop-at-test.true) (scan_full _ _ _ _ _ (omega arith)) refl
 
-same-length-2 : tie.Need-same-length-2 invariant-loop decreases-loop
-same-length-2 c = c.before.before.before.before.loop.invariant.long
+same-length-2 : tie.Need-shape_of-starts-then-end-at invariant-loop-at decreases-loop-at
+same-length-2 c = c.loop-at.invariant.long
 
-returns-2 : tie.Need-returns-2 invariant-loop decreases-loop
+returns-2 : tie.Need-returns-then-end-at invariant-loop-at decreases-loop-at
 returns-2 c =
     let else1 = c.before.before in
     let at-loop = from_else1 else1 in
-    let inside = else1.before.loop-test.true in
-    let wrong = formless (from_loop at-loop).args.file _ (not_ended _ _ inside _ c.before.line-end.ensures c.if2.true) in
-    answered at-loop.loop.inv (cut_from _ _ inside) (scan_wrong _ _ _ _ _ (room else1).ranges wrong) refl
+    let inside = else1.loop-at-test.true in
+    let wrong = formless (from_loop at-loop).args.file _ (not_ended _ _ inside _ c.line_end-end.ensures c.if-end-at.true) in
+    answered at-loop.loop-at.invariant (cut_from _ _ inside) (scan_wrong _ _ _ _ _ (room else1).fits wrong) refl
 
-sub_has_form : tie.Need-overflow-sub-has-form invariant-loop decreases-loop
+sub_has_form : tie.Need-slice_bounds-has_form-count invariant-loop-at decreases-loop-at
 sub_has_form c = let line = whole c in omega arith
 
-part_has_form_start : tie.Need-slice-bounds-has-form-start invariant-loop decreases-loop
+part_has_form_start : tie.Need-slice_bounds-has_form-start invariant-loop-at decreases-loop-at
 part_has_form_start c = let line = whole c in omega arith
 
-part_has_form_end : tie.Need-slice-bounds-has-form-end invariant-loop decreases-loop
+part_has_form_end : tie.Need-slice_bounds-has_form-end invariant-loop-at decreases-loop-at
 part_has_form_end c = (whole c).within
 
-has-form-requires : tie.Need-has-form-requires invariant-loop decreases-loop
+has-form-requires : tie.Need-has_form-requires invariant-loop-at decreases-loop-at
 has-form-requires c κs = (whole c.before).pairs
 
-same-length-3 : tie.Need-same-length-3 invariant-loop decreases-loop
-same-length-3 c = (from_else1 (from_else2 c.before.before.before)).loop.inv.long
+same-length-3 : tie.Need-shape_of-starts-then-not-has_form invariant-loop-at decreases-loop-at
+same-length-3 c = (from_else1 (from_else2 c.before.before.before)).loop-at.invariant.long
 
-returns-3 : tie.Need-returns-3 invariant-loop decreases-loop
+returns-3 : tie.Need-returns-then-not-has_form invariant-loop-at decreases-loop-at
 returns-3 c =
     let else2 = c.before.before.before in
     let else1 = from_else2 else2 in
-    let wrong = sym c.before.has-form.ensures ∙ not-true _ c.if3.true in
-    answered (from_else1 else1).loop.inv (whole else2).first (scan_wrong _ _ _ _ _ (room else1).fits wrong) refl
+    let wrong = sym c.has_form.ensures ∙ not-true _ c.if-not-has_form.true-raw in
+    answered (from_else1 else1).loop-at.invariant (whole else2).first (scan_wrong _ _ _ _ _ (room else1).fits wrong) refl
 
-cast_starts : tie.Need-overflow-cast-starts invariant-loop decreases-loop
+cast_starts : tie.Need-overflow_cast-starts invariant-loop-at decreases-loop-at
 cast_starts c = let r = room (from_else2 (from_else3 c)) in omega arith
 
-mul_starts : tie.Need-overflow-mul-starts invariant-loop decreases-loop
+mul_starts : tie.Need-offset_bounds-starts-n invariant-loop-at decreases-loop-at
 mul_starts c = let r = room (from_else2 (from_else3 c)) in omega arith
 
-slice-write-starts : tie.Need-slice-write-starts invariant-loop decreases-loop
+slice-write-starts : tie.Need-bounds-starts-n invariant-loop-at decreases-loop-at
 slice-write-starts c = let r = room (from_else2 (from_else3 c)) in omega arith
 
-add_n : tie.Need-overflow-add-n invariant-loop decreases-loop
+add_n : tie.Need-overflow_add-n invariant-loop-at decreases-loop-at
 add_n c = let r = room (from_else2 (from_else3 c)) in omega arith
 
-loop_less : tie.Need-loop-smaller invariant-loop decreases-loop
+loop_less : tie.Need-loop-at-smaller invariant-loop-at decreases-loop-at
 loop_less c = let line = whole (from_else3 c) in omega arith
 
-loop_again : tie.Need-loop-preserved invariant-loop decreases-loop
+loop_again : tie.Need-loop-at-preserved invariant-loop-at decreases-loop-at
 loop_again c =
     let else2 = from_else3 c in
     let else1 = from_else2 else2 in
-    let good = sym c.before.has-form.ensures ∙ not-false _ c.if3.false in
-    one_more (from_else1 else1).loop.inv (room else1) (whole else2) good
+    let good = sym c.has_form.ensures ∙ not-false _ c.if-not-has_form.false-raw in
+    one_more (from_else1 else1).loop-at.invariant (room else1) (whole else2) good
 
-same-length-4 : tie.Need-same-length-4 invariant-loop decreases-loop
-same-length-4 c = c.before.loop.invariant.long
+same-length-4 : tie.Need-shape_of-starts invariant-loop-at decreases-loop-at
+same-length-4 c = c.loop-at.invariant.long
 
-returns-4 : tie.Need-returns-4 invariant-loop decreases-loop
-returns-4 c = answered c.before.loop.invariant (cut_none _ _ c.loop-test.false) (scan_end _ _ _) refl
+returns-4 : tie.Need-returns invariant-loop-at decreases-loop-at
+returns-4 c = answered c.loop-at.invariant (cut_none _ _ c.loop-at-test.false) (scan_end _ _ _) refl
 
 pub scan_lines_spec : {M : Type 1} → statement M
 scan_lines_spec =
-    tie.close (tie.spec invariant-loop decreases-loop (λ c κs. search rules) loop_holds same_length returns (λ c κs. search rules) same-length-2 returns-2
+    tie.close (tie.spec invariant-loop-at decreases-loop-at (λ c κs. search rules) loop_holds same_length returns (λ c κs. search rules) same-length-2 returns-2
     sub_has_form part_has_form_start part_has_form_end has-form-requires same-length-3 returns-3 cast_starts mul_starts slice-write-starts add_n
     loop_less loop_again same-length-4 returns-4)

@@ -5,34 +5,30 @@ use Rattle.lines.specs.Entries.{class_of}
 use Rattle.lines.proofs.table.class_of.Statement.{statement}
 use Rattle.lines.proofs.table.class_of.Tie as tie
 
--- the entry, seen from a later place
-abbrev from_else2 : tie.Else2 → tie.Start
-from_else2 p = p.before.before
-
-returns : tie.Need-returns
+returns : tie.Need-returns-in-1-to-12
 unfolding class_of
-returns c = let b = c.before.before.args.operation in simp (le-leb 0x01 b (omega arith), le-leb b 0x0C (omega arith))
+returns c = let b = c.args.operation in simp (le-leb 0x01 b (omega arith), le-leb b 0x0C (omega arith))
 
-returns-2 : tie.Need-returns-2
+returns-2 : tie.Need-returns-in-17-to-19
 unfolding class_of
 returns-2 c =
-    let b = (from_else2 c.before.before).args.operation in
+    let b = c.args.operation in
     simp (le-leb 0x01 b (omega arith), lt-leb b 0x0C (omega arith), le-leb 0x11 b (omega arith), le-leb b 0x13 (omega arith))
 
-returns-3 : tie.Need-returns-3
+returns-3 : tie.Need-returns-in_default
 unfolding class_of
-returns-3 c = let b = c.before.args.operation in simp (lt-leb 0x01 b (omega arith), lt-leb 0x11 b (omega arith))
+returns-3 c = let b = c.args.operation in simp (lt-leb 0x01 b (omega arith), lt-leb 0x11 b (omega arith))
 
-returns-4 : tie.Need-returns-4
+returns-4 : tie.Need-returns-in_default-2
 unfolding class_of
 returns-4 c =
-    let b = (from_else2 c.before).args.operation in
+    let b = c.args.operation in
     simp (le-leb 0x01 b (omega arith), lt-leb b 0x0C (omega arith), lt-leb 0x11 b (omega arith))
 
-returns-5 : tie.Need-returns-5
+returns-5 : tie.Need-returns-in_default-3
 unfolding class_of
 returns-5 c =
-    let b = (from_else2 c.before.before).args.operation in
+    let b = c.args.operation in
     simp (le-leb 0x01 b (omega arith), lt-leb b 0x0C (omega arith), le-leb 0x11 b (omega arith), lt-leb b 0x13 (omega arith))
 
 pub class_of_spec : {M : Type 1} → statement M

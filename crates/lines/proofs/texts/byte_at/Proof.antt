@@ -6,7 +6,7 @@ use Rattle.lines.proofs.texts.byte_at.Statement.{statement}
 use Rattle.lines.proofs.texts.byte_at.Tie as tie
 
 returns : tie.Need-returns
-returns c = c.pair-at.ensures ∙ sym (byte_of_text _ _ _ c.before.before.requires)
+returns c = c.pair_at.ensures ∙ sym (byte_of_text _ _ _ c.requires)
 
 pub byte_at_spec : {M : Type 1} → statement M
 byte_at_spec = tie.close (tie.spec (λ c. search rules) (λ c. search rules) (λ c. search rules) (λ c κs. search rules) returns)

@@ -2,14 +2,14 @@
 use Rattle.lines.proofs.texts.same_byte.Statement.{statement}
 use Rattle.lines.proofs.texts.same_byte.Tie as tie
 
-byte-at-requires : tie.Need-byte-at-requires
-byte-at-requires c κs = c.before.before.requires.0
+byte-at-requires : tie.Need-byte_at-requires
+byte-at-requires c κs = c.requires.0
 
-byte-at-requires-2 : tie.Need-byte-at-requires-2
-byte-at-requires-2 c κs = c.before.before.before.requires.1
+byte-at-requires-2 : tie.Need-byte_at-requires-2
+byte-at-requires-2 c κs = c.requires.1
 
 returns : tie.Need-returns
-returns c = rw (c.before.byte_at.ensures, c.byte-at2.ensures)
+returns c = rw (c.byte_at.ensures, c.byte_at-2.ensures)
 
 pub same_byte_spec : {M : Type 1} → statement M
 same_byte_spec = tie.close (tie.spec byte-at-requires byte-at-requires-2 returns)

@@ -15,11 +15,11 @@ use Rattle.lines.specs.Theorems.Comparing.{length_differs, byte_differs, text_en
 use Rattle.lines.proofs.texts.same_front.Statement.{statement}
 use Rattle.lines.proofs.texts.same_front.Tie as tie
 
-abbrev invariant-loop : tie.invariant-loop
-invariant-loop a at_a m b at_b n j₀ j = (j ≤ n) × (same_text (drop j (take m (text_at a at_a))) (drop j (take n (text_at b at_b))) ≡ true)
+abbrev invariant-loop-j : tie.invariant-loop-j
+invariant-loop-j a at_a m b at_b n j₀ j = (j ≤ n) × (same_text (drop j (take m (text_at a at_a))) (drop j (take n (text_at b at_b))) ≡ true)
 
-abbrev decreases-loop : tie.decreases-loop
-decreases-loop a at_a m b at_b n j₀ j = j
+abbrev decreases-loop-j : tie.decreases-loop-j
+decreases-loop-j a at_a m b at_b n j₀ j = j
 
 front_byte : (m : ℕ) (t : List ℕ) (j : ℕ) {x : ℕ} → x ≡ get_or t j 0 → j < m → x ≡ get_or (take m t) j 0
 front_byte m t j e h = e ∙ sym (get_or-take m t j 0 h)
@@ -42,37 +42,37 @@ module _ (m n : ℕ) (s t : List ℕ) (fits : (m ≤ length s) × (n ≤ length 
         text_goes_back (take m s) (take n t) j h (omega (arith, length-take-le m s fits.0)) (omega (arith, length-take-le n t fits.1))
         (front_byte m s (j - 1) refl (omega arith)) (front_byte n t (j - 1) refl (omega arith)) (eqb-true _ _ (sym p ∙ q))
 
-returns : tie.Need-returns invariant-loop decreases-loop
-returns c = sym (numbers_differ _ _ _ _ c.before.before.before.requires c.if1.true)
+returns : tie.Need-returns-then-m-n invariant-loop-j decreases-loop-j
+returns c = sym (numbers_differ _ _ _ _ c.requires c.if-m-n.true)
 
-loop_holds : tie.Need-loop-init invariant-loop decreases-loop
-loop_holds c = (omega arith, front_ends _ _ _ _ c.before.before.before.requires c.if1.false)
+loop_holds : tie.Need-loop-j-init invariant-loop-j decreases-loop-j
+loop_holds c = (omega arith, front_ends _ _ _ _ c.requires c.if-m-n.false)
 
-same-byte-requires : tie.Need-same-byte-requires invariant-loop decreases-loop
+same-byte-requires : tie.Need-same_byte-requires invariant-loop-j decreases-loop-j
 same-byte-requires c κs =
-    let at-loop = c.before in
-    let same = at-loop.before.if1.false in
-    let most = at-loop.loop.invariant.0 in
-    let more = c.loop-test.true in
-    (omega (arith, at-loop.before.before.before.before.requires), omega (arith, at-loop.before.before.before.before.requires))
+    let at-loop = c in
+    let same = at-loop.if-m-n.false in
+    let most = at-loop.loop-j.invariant.0 in
+    let more = c.loop-j-test.true in
+    (omega (arith, at-loop.requires), omega (arith, at-loop.requires))
 
-returns-2 : tie.Need-returns-2 invariant-loop decreases-loop
+returns-2 : tie.Need-returns-then-not-same_byte invariant-loop-j decreases-loop-j
 returns-2 c =
-    let at-loop = c.before.before.before in
-    sym (front_differs _ _ _ _ at-loop.before.before.before.before.requires at-loop.before.if1.false at-loop.loop.j (omega arith) at-loop.loop.invariant.0
-    c.before.same_byte.ensures (not-true _ c.if2.true))
+    let at-loop = c in
+    sym (front_differs _ _ _ _ at-loop.requires at-loop.if-m-n.false at-loop.loop-j.j (omega arith) at-loop.loop-j.invariant.0
+    c.same_byte.ensures (not-true _ c.if-not-same_byte.true-raw))
 
-loop_again : tie.Need-loop-preserved invariant-loop decreases-loop
+loop_again : tie.Need-loop-j-preserved invariant-loop-j decreases-loop-j
 loop_again c =
-    let at-loop = c.before.before.before in (
+    let at-loop = c in (
       omega arith,
-      front_goes_back _ _ _ _ at-loop.before.before.before.before.requires at-loop.before.if1.false at-loop.loop.j (omega arith) at-loop.loop.invariant.0
-          c.before.same_byte.ensures (not-false _ c.if2.false) at-loop.loop.invariant.1,
+      front_goes_back _ _ _ _ at-loop.requires at-loop.if-m-n.false at-loop.loop-j.j (omega arith) at-loop.loop-j.invariant.0
+          c.same_byte.ensures (not-false _ c.if-not-same_byte.false-raw) at-loop.loop-j.invariant.1,
     )
 
-returns-3 : tie.Need-returns-3 invariant-loop decreases-loop
-returns-3 c = sym (text_whole _ _ _ c.loop-test.false c.before.loop.invariant.1)
+returns-3 : tie.Need-returns invariant-loop-j decreases-loop-j
+returns-3 c = sym (text_whole _ _ _ c.loop-j-test.false c.loop-j.invariant.1)
 
 pub same_front_spec : {M : Type 1} → statement M
 same_front_spec =
-    tie.close (tie.spec invariant-loop decreases-loop returns loop_holds (λ c. search rules) same-byte-requires returns-2 (λ c. search rules) loop_again returns-3)
+    tie.close (tie.spec invariant-loop-j decreases-loop-j returns loop_holds (λ c. search rules) same-byte-requires returns-2 (λ c. search rules) loop_again returns-3)

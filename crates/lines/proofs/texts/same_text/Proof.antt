@@ -13,11 +13,11 @@ use Rattle.lines.proofs.texts.same_text.Tie as tie
 whole : (t : List ℕ) {n : ℕ} → n ≡ length t → take n t ≡ t
 whole t {n} e = take_all n t (omega arith)
 
-same-front-requires : tie.Need-same-front-requires
-same-front-requires c κs = (omega (arith, c.before.text-len.ensures), omega (arith, c.text-len2.ensures))
+same-front-requires : tie.Need-same_front-requires
+same-front-requires c κs = (omega (arith, c.text_len.ensures), omega (arith, c.text_len-2.ensures))
 
 returns : tie.Need-returns
-returns c = c.same-front.ensures ∙ ap₂ same_text (whole _ c.before.before.text-len.ensures) (whole _ c.before.text-len2.ensures)
+returns c = c.same_front.ensures ∙ ap₂ same_text (whole _ c.text_len.ensures) (whole _ c.text_len-2.ensures)
 
 pub same_text_spec : {M : Type 1} → statement M
 same_text_spec = tie.close (tie.spec (λ c κs. search rules) (λ c κs. search rules) same-front-requires returns)

@@ -8,7 +8,7 @@ use Rattle.lines.proofs.texts.text_len.Tie as tie
 
 returns : tie.Need-returns
 unfolding text_at
-returns c = c.pair-at.ensures ∙ sym (length_bytes _ _ _)
+returns c = c.pair_at.ensures ∙ sym (length_bytes _ _ _)
 
 pub text_len_spec : {M : Type 1} → statement M
 text_len_spec = tie.close (tie.spec (λ c κs. search rules) returns)

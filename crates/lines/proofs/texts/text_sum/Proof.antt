@@ -11,11 +11,11 @@ use Rattle.lines.specs.Theorems.Lists.{drop_one}
 use Rattle.lines.proofs.texts.text_sum.Statement.{statement}
 use Rattle.lines.proofs.texts.text_sum.Tie as tie
 
-abbrev invariant-loop : tie.invariant-loop
-invariant-loop s at n sum₀ j₀ sum j = (j ≤ n) × (sum < 0x100000000) × (sum_from sum (drop j (text_at s at)) ≡ text_sum (text_at s at))
+abbrev invariant-loop-j : tie.invariant-loop-j
+invariant-loop-j s at n sum₀ j₀ sum j = (j ≤ n) × (sum < 0x100000000) × (sum_from sum (drop j (text_at s at)) ≡ text_sum (text_at s at))
 
-abbrev decreases-loop : tie.decreases-loop
-decreases-loop s at n sum₀ j₀ sum j = n - j
+abbrev decreases-loop-j : tie.decreases-loop-j
+decreases-loop-j s at n sum₀ j₀ sum j = n - j
 
 sum_goes_on : (t : List ℕ) (j sum : ℕ) {x : ℕ} → j < length t → x ≡ get_or t j 0 → sum_from sum (drop j t) ≡ sum_from ((0x9E3779B1 * sum + x) % 0x100000000) (drop (j + 1) t)
 unfolding sum_from
@@ -25,38 +25,38 @@ sum_ends : (t : List ℕ) (j sum : ℕ) → length t ≤ j → sum_from sum (dro
 unfolding sum_from
 sum_ends t j sum h = rw (drop_of_length-le t h)
 
-loop_holds : tie.Need-loop-init invariant-loop decreases-loop
+loop_holds : tie.Need-loop-j-init invariant-loop-j decreases-loop-j
 unfolding text_sum
 loop_holds c = (omega arith, omega arith, refl)
 
-mul_sum : tie.Need-overflow-mul-sum invariant-loop decreases-loop
-mul_sum c = let small = c.before.loop.invariant.1 in search rules
+mul_sum : tie.Need-overflow_mul-sum invariant-loop-j decreases-loop-j
+mul_sum c = let small = c.loop-j.invariant.1 in search rules
 
-byte-at-requires : tie.Need-byte-at-requires invariant-loop decreases-loop
-byte-at-requires c κs = let many = c.before.before.text-len.ensures in let more = c.loop-test.true in omega arith
+byte-at-requires : tie.Need-byte_at-requires invariant-loop-j decreases-loop-j
+byte-at-requires c κs = let many = c.text_len-n.ensures in let more = c.loop-j-test.true in omega arith
 
-add_sum : tie.Need-overflow-add-sum invariant-loop decreases-loop
-add_sum c = let small = c.before.before.loop.invariant.1 in search rules
+add_sum : tie.Need-overflow_add-sum invariant-loop-j decreases-loop-j
+add_sum c = let small = c.loop-j.invariant.1 in search rules
 
-loop_again : tie.Need-loop-preserved invariant-loop decreases-loop
+loop_again : tie.Need-loop-j-preserved invariant-loop-j decreases-loop-j
 loop_again c =
-    let a = c.before.before.before.before.before.args in
-    let l = c.before.before.loop in
-    let many = c.before.before.before.text-len.ensures in
-    let more = c.before.loop-test.true in
+    let a = c.args in
+    let l = c.loop-j in
+    let many = c.text_len-n.ensures in
+    let more = c.loop-j-test.true in
     (omega arith, omega arith, sym (sum_goes_on (text_at a.s.now a.at) l.j l.sum (omega arith) c.byte_at.ensures) ∙ l.invariant.2)
 
-cast_result : tie.Need-overflow-cast-result invariant-loop decreases-loop
-cast_result c = let small = c.before.loop.invariant.1 in search rules
+cast_result : tie.Need-overflow_cast-result invariant-loop-j decreases-loop-j
+cast_result c = let small = c.loop-j.invariant.1 in search rules
 
-returns : tie.Need-returns invariant-loop decreases-loop
+returns : tie.Need-returns invariant-loop-j decreases-loop-j
 returns c =
-    let a = c.before.before.before.before.args in
-    let l = c.before.loop in
-    let many = c.before.before.text-len.ensures in
+    let a = c.args in
+    let l = c.loop-j in
+    let many = c.text_len-n.ensures in
     sym (sum_ends (text_at a.s.now a.at) l.j l.sum (omega arith)) ∙ l.invariant.2
 
 pub text_sum_spec : {M : Type 1} → statement M
 text_sum_spec =
-    tie.close (tie.spec invariant-loop decreases-loop (λ c κs. search rules) loop_holds mul_sum byte-at-requires (λ c. search rules) add_sum (λ c. search rules)
+    tie.close (tie.spec invariant-loop-j decreases-loop-j (λ c κs. search rules) loop_holds mul_sum byte-at-requires (λ c. search rules) add_sum (λ c. search rules)
     (λ c. search rules) loop_again cast_result returns)

@@ -16,12 +16,12 @@ fits t e = omega (arith, trimmed_length t)
 front : (t : List ℕ) {n : ℕ} → n ≡ length (trimmed t) → take n t ≡ trimmed t
 front t e = ap (λ (i : ℕ). take i t) e ∙ trimmed_take t
 
-same-front-requires : tie.Need-same-front-requires
-same-front-requires c κs = (fits _ c.before.trimmed_len.ensures, fits _ c.trimmed-len2.ensures)
+same-front-requires : tie.Need-same_front-requires
+same-front-requires c κs = (fits _ c.trimmed_len.ensures, fits _ c.trimmed_len-2.ensures)
 
 returns : tie.Need-returns
 unfolding agree
-returns c = c.same-front.ensures ∙ ap₂ same_text (front _ c.before.before.trimmed_len.ensures) (front _ c.before.trimmed-len2.ensures)
+returns c = c.same_front.ensures ∙ ap₂ same_text (front _ c.trimmed_len.ensures) (front _ c.trimmed_len-2.ensures)
 
 pub texts_agree_spec : {M : Type 1} → statement M
 texts_agree_spec = tie.close (tie.spec (λ c κs. search rules) (λ c κs. search rules) same-front-requires returns)

@@ -12,14 +12,14 @@ use Rattle.lines.specs.Theorems.TrimmedTexts.{spaces_behind, other_behind}
 use Rattle.lines.proofs.texts.trimmed_len.Statement.{statement}
 use Rattle.lines.proofs.texts.trimmed_len.Tie as tie
 
-abbrev invariant-loop : tie.invariant-loop
-invariant-loop s at n₀ n = (n ≤ length (text_at s at)) × (trimmed (take n (text_at s at)) ≡ trimmed (text_at s at))
+abbrev invariant-loop-n : tie.invariant-loop-n
+invariant-loop-n s at n₀ n = (n ≤ length (text_at s at)) × (trimmed (take n (text_at s at)) ≡ trimmed (text_at s at))
 
-abbrev decreases-loop : tie.decreases-loop
-decreases-loop s at n₀ n = n
+abbrev decreases-loop-n : tie.decreases-loop-n
+decreases-loop-n s at n₀ n = n
 
-loop_holds : tie.Need-loop-init invariant-loop decreases-loop
-loop_holds c = whole _ c.text-len.ensures
+loop_holds : tie.Need-loop-n-init invariant-loop-n decreases-loop-n
+loop_holds c = whole _ c.text_len-n.ensures
   where
     whole : (t : List ℕ) {n : ℕ} → n ≡ length t → (n ≤ length t) × (trimmed (take n t) ≡ trimmed t)
     whole t {n} e = (omega arith, ap trimmed (take_all n t (omega arith)))
@@ -39,24 +39,24 @@ module _ (t : List ℕ) (n : ℕ) {x : ℕ} (s : 0 < n) (h : n ≤ length t) (e 
       sym (length-take-le n t h)
       ∙ ap length (last ∙ (sym (other_behind (take (n - 1) t) x p) ∙ (ap trimmed (sym last) ∙ k)))
 
-byte-at-requires : tie.Need-byte-at-requires invariant-loop decreases-loop
-byte-at-requires c κs = let most = c.before.loop.invariant.0 in omega arith
+byte-at-requires : tie.Need-byte_at-requires invariant-loop-n decreases-loop-n
+byte-at-requires c κs = let most = c.loop-n.invariant.0 in omega arith
 
-returns : tie.Need-returns invariant-loop decreases-loop
+returns : tie.Need-returns-then-byte_at-ne32 invariant-loop-n decreases-loop-n
 returns c =
-    let at-loop = c.before.before.before in
-    other_stays _ _ (omega arith) at-loop.loop.invariant.0 c.before.byte_at.ensures at-loop.loop.invariant.1 c.if1.true
+    let at-loop = c in
+    other_stays _ _ (omega arith) at-loop.loop-n.invariant.0 c.byte_at.ensures at-loop.loop-n.invariant.1 c.if-byte_at-ne32.true
 
-loop_again : tie.Need-loop-preserved invariant-loop decreases-loop
+loop_again : tie.Need-loop-n-preserved invariant-loop-n decreases-loop-n
 loop_again c =
-    let at-loop = c.before.before.before in
-    (omega arith, space_goes _ _ (omega arith) at-loop.loop.invariant.0 c.before.byte_at.ensures at-loop.loop.invariant.1 c.if1.false)
+    let at-loop = c in
+    (omega arith, space_goes _ _ (omega arith) at-loop.loop-n.invariant.0 c.byte_at.ensures at-loop.loop-n.invariant.1 c.if-byte_at-ne32.false)
 
-returns-2 : tie.Need-returns-2 invariant-loop decreases-loop
+returns-2 : tie.Need-returns invariant-loop-n decreases-loop-n
 unfolding trimmed
-returns-2 c = let at-loop = c.before in let z : at-loop.loop.n ≡ 0 = omega arith in ap length (rw z at at-loop.loop.invariant.1)
+returns-2 c = let at-loop = c in let z : at-loop.loop-n.n ≡ 0 = omega arith in ap length (rw z at at-loop.loop-n.invariant.1)
 
 pub trimmed_len_spec : {M : Type 1} → statement M
 trimmed_len_spec =
-    tie.close (tie.spec invariant-loop decreases-loop (λ c κs. search rules) loop_holds (λ c. search rules) byte-at-requires returns (λ c. search rules) (λ c. search rules)
+    tie.close (tie.spec invariant-loop-n decreases-loop-n (λ c κs. search rules) loop_holds (λ c. search rules) byte-at-requires returns (λ c. search rules) (λ c. search rules)
     loop_again returns-2)

@@ -12,44 +12,44 @@ use Rattle.lines.specs.Engine.Starts.{node_at, lines_of}
 use Rattle.lines.proofs.view.program_mark.Statement.{statement}
 use Rattle.lines.proofs.view.program_mark.Tie as tie
 
-abbrev invariant-loop : tie.invariant-loop
-invariant-loop view vs i₀ i = (i ≤ length vs) × (first_from program_marked i (lines_of view (drop i vs)) ≡ program_mark (lines_of view vs))
+abbrev invariant-loop-i : tie.invariant-loop-i
+invariant-loop-i view vs i₀ i = (i ≤ length vs) × (first_from program_marked i (lines_of view (drop i vs)) ≡ program_mark (lines_of view vs))
 
-abbrev decreases-loop : tie.decreases-loop
-decreases-loop view vs i₀ i = length vs - i
+abbrev decreases-loop-i : tie.decreases-loop-i
+decreases-loop-i view vs i₀ i = length vs - i
 
 -- the entry, seen from a later place
-abbrev from_loop : tie.At-loop invariant-loop decreases-loop → tie.Start invariant-loop decreases-loop
+abbrev from_loop : tie.At-loop-i invariant-loop-i decreases-loop-i → tie.Start invariant-loop-i decreases-loop-i
 from_loop p = p.before.before.before
 
-loop_holds : tie.Need-loop-init invariant-loop decreases-loop
+loop_holds : tie.Need-loop-i-init invariant-loop-i decreases-loop-i
 unfolding program_mark
 loop_holds c = (omega arith, refl)
 
-returns : tie.Need-returns invariant-loop decreases-loop
+returns : tie.Need-returns-then-is_program_marked invariant-loop-i decreases-loop-i
 returns c =
     let in-loop = c.before.before.before in
     let at-loop = in-loop.before in
     let a = (from_loop at-loop).args in
-    let here = nodes_one (node_at a.view.now) a.vs.now at-loop.loop.i in-loop.loop-test.true in
-    sym (rw here (first_here program_marked at-loop.loop.i _ _ (sym c.before.is-program-marked.ensures ∙ c.if1.true))) ∙ at-loop.loop.invariant.1
+    let here = nodes_one (node_at a.view.now) a.vs.now at-loop.loop-i.i in-loop.loop-i-test.true in
+    sym (rw here (first_here program_marked at-loop.loop-i.i _ _ (sym c.is_program_marked.ensures ∙ c.if-is_program_marked.true))) ∙ at-loop.loop-i.invariant.1
 
-loop_again : tie.Need-loop-preserved invariant-loop decreases-loop
+loop_again : tie.Need-loop-i-preserved invariant-loop-i decreases-loop-i
 loop_again c =
     let in-loop = c.before.before.before in
     let at-loop = in-loop.before in
     let a = (from_loop at-loop).args in
-    let here = nodes_one (node_at a.view.now) a.vs.now at-loop.loop.i in-loop.loop-test.true in
-    (omega arith, sym (rw here (first_later program_marked at-loop.loop.i _ _ (sym c.before.is-program-marked.ensures ∙ c.if1.false))) ∙ at-loop.loop.invariant.1)
+    let here = nodes_one (node_at a.view.now) a.vs.now at-loop.loop-i.i in-loop.loop-i-test.true in
+    (omega arith, sym (rw here (first_later program_marked at-loop.loop-i.i _ _ (sym c.is_program_marked.ensures ∙ c.if-is_program_marked.false))) ∙ at-loop.loop-i.invariant.1)
 
-returns-2 : tie.Need-returns-2 invariant-loop decreases-loop
+returns-2 : tie.Need-returns invariant-loop-i decreases-loop-i
 returns-2 c =
     let at-loop = c.before in
     let a = (from_loop at-loop).args in
-    sym (rw (nodes_none (node_at a.view.now) a.vs.now at-loop.loop.i c.loop-test.false) (first_none program_marked at-loop.loop.i)) ∙
-    at-loop.loop.invariant.1
+    sym (rw (nodes_none (node_at a.view.now) a.vs.now at-loop.loop-i.i c.loop-i-test.false) (first_none program_marked at-loop.loop-i.i)) ∙
+    at-loop.loop-i.invariant.1
 
 pub program_mark_spec : {M : Type 1} → statement M
 program_mark_spec =
-    tie.close (tie.spec invariant-loop decreases-loop loop_holds (λ c. search rules) (λ c. search rules) (λ c κs. search rules) returns (λ c. search rules)
+    tie.close (tie.spec invariant-loop-i decreases-loop-i loop_holds (λ c. search rules) (λ c. search rules) (λ c κs. search rules) returns (λ c. search rules)
     (λ c. search rules) loop_again returns-2)

@@ -5,28 +5,28 @@ use Rattle.lines.specs.Views.{same_head}
 use Rattle.lines.proofs.view.same_head.Statement.{statement}
 use Rattle.lines.proofs.view.same_head.Tie as tie
 
-returns : tie.Need-returns
+returns : tie.Need-returns-then-depth_at-head
 unfolding same_head
-returns c = λ text. rw (← c.before.before.depth-at.ensures, ne_eqb _ _ c.if1.true)
+returns c = λ text. rw (← c.depth_at.ensures, ne_eqb _ _ c.if-depth_at-head.true)
 
-returns-2 : tie.Need-returns-2
+returns-2 : tie.Need-returns-then-kind_at-head
 unfolding same_head
 returns-2 c =
-    let kind = c.before.before in
+    let kind = c in
     let depth = kind.before.before.before in
-    λ text. rw (← depth.depth-at.ensures, eq-eqb _ _ kind.before.if1.false, ← kind.kind_at.ensures, ne_eqb _ _ c.if2.true)
+    λ text. rw (← depth.depth_at.ensures, eq-eqb _ _ kind.if-depth_at-head.false, ← kind.kind_at.ensures, ne_eqb _ _ c.if-kind_at-head.true)
 
-returns-3 : tie.Need-returns-3
+returns-3 : tie.Need-returns
 unfolding same_head
 returns-3 c =
-    let number = c.before in
+    let number = c in
     let kind = number.before.before.before in
     let depth = kind.before.before.before in
     λ text. rw (
-      ← depth.depth-at.ensures,
-      eq-eqb _ _ kind.before.if1.false,
+      ← depth.depth_at.ensures,
+      eq-eqb _ _ kind.if-depth_at-head.false,
       ← kind.kind_at.ensures,
-      eq-eqb _ _ number.before.if2.false,
+      eq-eqb _ _ number.if-kind_at-head.false,
       ← number.number_at.ensures,
     )
 

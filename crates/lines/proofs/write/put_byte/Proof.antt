@@ -7,12 +7,12 @@ use Rattle.lines.specs.Hex.{encode}
 use Rattle.lines.proofs.write.put_byte.Statement.{statement}
 use Rattle.lines.proofs.write.put_byte.Tie as tie
 
-slice-write-out-2 : tie.Need-slice-write-out-2
+slice-write-out-2 : tie.Need-bounds-out-pos-2
 slice-write-out-2 c = simp length-set (omega arith)
 
 returns : tie.Need-returns
 unfolding encode
-returns c = rw (add-one, c.before.hex-digit.ensures, c.hex-digit2.ensures)
+returns c = rw (add-one, c.hex_digit.ensures, c.hex_digit-2.ensures)
 
 pub put_byte_spec : {M : Type 1} → statement M
 put_byte_spec =
