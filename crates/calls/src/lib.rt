@@ -1,4 +1,6 @@
 // The calls: showing a view, putting it back and sweeping a master, on the bytes of files, with the twelve replies.
+#![tactic(auto)]
+
 pub mod beside;
 pub mod files;
 pub mod put_back;

@@ -1,5 +1,7 @@
 // Runs the cases on standard input, and writes for each the reply line, the output lines, a sweep's number lines, and a
 // line that says whether the lent places were left as promised (00) or not (01).
+#![tactic(auto)]
+
 ghost use Rattle.std.specs.Prelude.{◌<◌, ◌≤◌};
 
 use calls::reply::Reply;

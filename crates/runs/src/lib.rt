@@ -1,4 +1,6 @@
 // The runs: the program tree and its bounds, showing, testing and putting back, over values in the work slice.
+#![tactic(auto)]
+
 pub mod at;
 pub mod lookup;
 pub mod put;

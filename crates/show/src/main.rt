@@ -1,4 +1,6 @@
 // Shows master.hex through program.hex.
+#![tactic(auto)]
+
 use calls::room::{OUT_ROOM, WORK_ROOM};
 use shell::print::{print_first, print_reply, print_unreadable};
 use shell::read::read_file;

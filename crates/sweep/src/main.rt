@@ -1,4 +1,6 @@
 // Sweeps master.hex.
+#![tactic(auto)]
+
 use calls::room::{NUMBERS_ROOM, OUT_ROOM};
 use shell::numbers::number_bytes;
 use shell::print::{print_first, print_reply, print_unreadable};

@@ -46,8 +46,8 @@ module _ (n : ℕ) where
           → Silent v (rest_of ss) ⊎ ((i : ℕ) × Speaks v (rest_of ss) i) → Silent (x ∷ v) ss ⊎ ((i : ℕ) × Speaks (x ∷ v) ss i)
       go p q (inr r) = inr (suc r.0, r.1)
       go (inl p) (inr q) (inl r) = inr (zero, (p, q))
-      go (inl p) (inl q) (inl r) = inl (λ i. elim i [ zero ↦ λ h. q | suc j ↦ λ h. r j h ])
-      go (inr p) q (inl r) = inl (λ i. elim i [ zero ↦ λ h. cc | suc j ↦ λ h. r j h ])
+      go (inl p) (inl q) (inl r) = inl (λ i. elim i as (λ k. is_copy n (x ∷ v) k ≡ true → standing_at ss k ≡ untouched) [ zero ↦ λ h. q | suc j ↦ λ h. r j h ])
+      go (inr p) q (inl r) = inl (λ i. elim i as (λ k. is_copy n (x ∷ v) k ≡ true → standing_at ss k ≡ untouched) [ zero ↦ λ h. cc | suc j ↦ λ h. r j h ])
 
   -- without a clash, each copy that says something says what they come to
   pub gathered_says : (v : Value) (ss : List Standing) (i : ℕ) → Speaks v ss i → is_clash (gathered n v ss) ≡ false → gathered n v ss ≡ standing_at ss i

@@ -9,7 +9,7 @@ use Rattle.std.proofs.Math.Numerals.{lt_of_le_of_ne}
 use native.Mathlib.Omega.{arith}
 use Rattle.std.proofs.Math.Dec.{eqb, ltb}
 use Rattle.std.proofs.Math.ListN.{length-map}
-use borrow.Author.Tests.{ltb-true, ltb_false, lt-ltb, le-ltb, eqb-true, eqb-false, eq-eqb, ne_eqb, leb-true}
+use borrow.Author.Tests.{ltb-true, ltb-false, lt-ltb, le-ltb, eqb-true, eqb-false, eq-eqb, ne_eqb, leb-true}
 use Rattle.lines.specs.Texts.{same_text}
 use Rattle.lines.specs.Theorems.Bools.{and_left, and_right}
 use Rattle.lines.specs.Theorems.SameTexts.{same_text_comm}
@@ -57,7 +57,7 @@ module _ (made : Made) where
     where
       go : (t : Bool) → ltb x 0x10000 ≡ t → eqb (x / 0x10000) 0 ≡ ltb x 0x10000
       go true e = let h = ltb-true x 0x10000 e in rw (e, eq-eqb (x / 0x10000) 0 (omega arith))
-      go false e = let h = ltb_false x 0x10000 e in rw (e, ne_eqb (x / 0x10000) 0 (λ z. omega arith))
+      go false e = let h = ltb-false x 0x10000 e in rw (e, ne_eqb (x / 0x10000) 0 (λ z. omega arith))
 
   lowered_node : (x : ℕ) → node_of made (lowered_word x) ≡ record { depth = pred (node_of made x).depth; origin = (node_of made x).origin }
   unfolding node_of lowered_word
@@ -69,7 +69,7 @@ module _ (made : Made) where
           let d : x / 0x10000 ≡ pred (x / 0x10000) = rw (← sub-one) (omega arith) in
           λ i. record { depth = d i; origin = origin_of made (x % 0x10000) }
       go false e =
-          let h = ltb_false x 0x10000 e in
+          let h = ltb-false x 0x10000 e in
           let d : (x - 0x10000) / 0x10000 ≡ pred (x / 0x10000) = rw (← sub-one) (omega arith) in
           let o : (x - 0x10000) % 0x10000 ≡ x % 0x10000 = omega arith in
           λ i. record { depth = d i; origin = origin_of made (o i) }
@@ -145,7 +145,7 @@ module _ (texts : ℕ → List ℕ) where
     where
       go : (t : Bool) → ltb a b ≡ t → same_text (texts (a - 4)) (texts (b - 4)) ≡ false
       go true e = let h = ltb-true a b e in q (a - 4) (omega arith)
-      go false e = let h = ltb_false a b e in let l : b < a = lt_of_le_of_ne h (λ z. ne (sym z)) in same_text_comm (texts (a - 4)) (texts (b - 4)) ∙ p (b - 4) (omega arith)
+      go false e = let h = ltb-false a b e in let l : b < a = lt_of_le_of_ne h (λ z. ne (sym z)) in same_text_comm (texts (a - 4)) (texts (b - 4)) ∙ p (b - 4) (omega arith)
 
   -- different words stand for different standings
   words_apart : (a b : ℕ) → Named texts a → Named texts b → (a ≡ b → ⊥) → same_standing (standing_of texts a) (standing_of texts b) ≡ false
@@ -158,7 +158,7 @@ module _ (texts : ℕ → List ℕ) where
       go true true e f = rw (sort_word a, sort_word b, e, f, ne_eqb a b ne)
       go true false e f = let h = ltb-true a 4 e in rw (sort_word a, sort_word b, e, f, ne_eqb a 4 (λ z. omega arith))
       go false true e f = let h = ltb-true b 4 f in rw (sort_word a, sort_word b, e, f, ne_eqb 4 b (λ z. omega arith))
-      go false false e f = let g = ltb_false a 4 e in let h = ltb_false b 4 f in rw (sort_word a, sort_word b, e, f, text_word a g, text_word b h) (named_apart a b p q g h ne)
+      go false false e f = let g = ltb-false a 4 e in let h = ltb-false b 4 f in rw (sort_word a, sort_word b, e, f, text_word a g, text_word b h) (named_apart a b p q g h ne)
 
   untouched_word : (x : ℕ) → is_untouched (standing_of texts x) ≡ eqb x 0
   unfolding is_untouched
@@ -166,7 +166,7 @@ module _ (texts : ℕ → List ℕ) where
     where
       go : (t : Bool) → ltb x 4 ≡ t → eqb (cond t x 4) 0 ≡ eqb x 0
       go true e = refl
-      go false e = let h = ltb_false x 4 e in rw (ne_eqb x 0 (λ z. omega arith))
+      go false e = let h = ltb-false x 4 e in rw (ne_eqb x 0 (λ z. omega arith))
 
   clash_word : standing_of texts 3 ≡ clash
   unfolding standing_of

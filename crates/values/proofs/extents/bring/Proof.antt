@@ -8,59 +8,59 @@ use Rattle.values.specs.Engine.Words.{part}
 use Rattle.values.proofs.extents.bring.Statement.{statement}
 use Rattle.values.proofs.extents.bring.Tie as tie
 
-abbrev invariant-loop : tie.invariant-loop
-invariant-loop work₀ to other from len i₀ work i = Putting work₀ to (part other from len) len work i
+abbrev invariant-loop-i : tie.invariant-loop-i
+invariant-loop-i work₀ to other from len i₀ work i = Putting work₀ to (part other from len) len work i
 
-abbrev decreases-loop : tie.decreases-loop
-decreases-loop work₀ to other from len i₀ work i = len - i
+abbrev decreases-loop-i : tie.decreases-loop-i
+decreases-loop-i work₀ to other from len i₀ work i = len - i
 
-loop_holds : tie.Need-loop-init invariant-loop decreases-loop
+loop_holds : tie.Need-loop-i-init invariant-loop-i decreases-loop-i
 loop_holds c =
     let a = c.args in
     putting_starts a.work.now a.to _ a.len (length_part a.other.now a.from a.len (omega arith)) (omega arith)
 
-add_work : tie.Need-overflow-add-work invariant-loop decreases-loop
-add_work c = let at-loop = c.before in omega (arith, at-loop.loop.invariant.most, at-loop.loop.invariant.long)
+add_work : tie.Need-overflow_add-work invariant-loop-i decreases-loop-i
+add_work c = let at-loop = c in omega (arith, at-loop.loop-i.invariant.most, at-loop.loop-i.invariant.long)
 
-mul_work : tie.Need-overflow-mul-work invariant-loop decreases-loop
-mul_work c = let at-loop = c.before in omega (arith, at-loop.loop.invariant.most, at-loop.loop.invariant.long)
+mul_work : tie.Need-offset_bounds-other-from invariant-loop-i decreases-loop-i
+mul_work c = let at-loop = c in omega (arith, at-loop.loop-i.invariant.most, at-loop.loop-i.invariant.long)
 
-shared-slice-read-work : tie.Need-shared-slice-read-work invariant-loop decreases-loop
-shared-slice-read-work c = let at-loop = c.before.before in omega (arith, at-loop.loop.invariant.most, at-loop.loop.invariant.long)
+shared-slice-read-work : tie.Need-bounds-other-from invariant-loop-i decreases-loop-i
+shared-slice-read-work c = let at-loop = c in omega (arith, at-loop.loop-i.invariant.most, at-loop.loop-i.invariant.long)
 
-add_work_2 : tie.Need-overflow-add-work-2 invariant-loop decreases-loop
-add_work_2 c = let at-loop = c.before.before in omega (arith, at-loop.loop.invariant.most, at-loop.loop.invariant.long)
+add_work_2 : tie.Need-overflow_add-work-in-loop-i invariant-loop-i decreases-loop-i
+add_work_2 c = let at-loop = c in omega (arith, at-loop.loop-i.invariant.most, at-loop.loop-i.invariant.long)
 
-mul_work_2 : tie.Need-overflow-mul-work-2 invariant-loop decreases-loop
-mul_work_2 c = let at-loop = c.before.before in omega (arith, at-loop.loop.invariant.most, at-loop.loop.invariant.long)
+mul_work_2 : tie.Need-offset_bounds-work-to invariant-loop-i decreases-loop-i
+mul_work_2 c = let at-loop = c in omega (arith, at-loop.loop-i.invariant.most, at-loop.loop-i.invariant.long)
 
-slice-write-work : tie.Need-slice-write-work invariant-loop decreases-loop
-slice-write-work c = let at-loop = c.before.before in omega (arith, at-loop.loop.invariant.most, at-loop.loop.invariant.long)
+slice-write-work : tie.Need-bounds-work-to invariant-loop-i decreases-loop-i
+slice-write-work c = let at-loop = c in omega (arith, at-loop.loop-i.invariant.most, at-loop.loop-i.invariant.long)
 
-add_i : tie.Need-overflow-add-i invariant-loop decreases-loop
-add_i c = let at-loop = c.before.before in omega (arith, at-loop.loop.invariant.most, at-loop.loop.invariant.long)
+add_i : tie.Need-overflow_add-i invariant-loop-i decreases-loop-i
+add_i c = let at-loop = c in omega (arith, at-loop.loop-i.invariant.most, at-loop.loop-i.invariant.long)
 
-loop_less : tie.Need-loop-smaller invariant-loop decreases-loop
-loop_less c = let at-loop = c.before.before in omega (arith, at-loop.loop.invariant.most, at-loop.loop.invariant.long)
+loop_less : tie.Need-loop-i-smaller invariant-loop-i decreases-loop-i
+loop_less c = let at-loop = c in omega (arith, at-loop.loop-i.invariant.most, at-loop.loop-i.invariant.long)
 
-loop_again : tie.Need-loop-preserved invariant-loop decreases-loop
+loop_again : tie.Need-loop-i-preserved invariant-loop-i decreases-loop-i
 loop_again c =
     let in-loop = c.before in
     let at-loop = in-loop.before in
-    let a = at-loop.before.args in
+    let a = at-loop.args in
     putting_goes_on a.work.now a.to _ a.len (length_part a.other.now a.from a.len (omega arith)) (omega arith)
-    at-loop.loop.invariant in-loop.loop-test.true (sym (get_d_part a.other.now a.from a.len at-loop.loop.i in-loop.loop-test.true))
+    at-loop.loop-i.invariant in-loop.loop-i-test.true (sym (get_d_part a.other.now a.from a.len at-loop.loop-i.i in-loop.loop-i-test.true))
 
-same_length : tie.Need-same-length invariant-loop decreases-loop
-same_length c = c.before.loop.invariant.long
+same_length : tie.Need-shape_of-work invariant-loop-i decreases-loop-i
+same_length c = c.loop-i.invariant.long
 
-returns : tie.Need-returns invariant-loop decreases-loop
+returns : tie.Need-returns invariant-loop-i decreases-loop-i
 returns c =
-    let a = c.before.before.args in
-    putting_ends a.work.now a.to _ a.len (length_part a.other.now a.from a.len (omega arith)) (omega arith) c.before.loop.invariant
-    c.loop-test.false
+    let a = c.args in
+    putting_ends a.work.now a.to _ a.len (length_part a.other.now a.from a.len (omega arith)) (omega arith) c.loop-i.invariant
+    c.loop-i-test.false
 
 pub bring_spec : {M : Type 1} → statement M
 bring_spec =
-    tie.close (tie.spec invariant-loop decreases-loop loop_holds add_work mul_work shared-slice-read-work add_work_2 mul_work_2 slice-write-work add_i loop_less
+    tie.close (tie.spec invariant-loop-i decreases-loop-i loop_holds add_work mul_work shared-slice-read-work add_work_2 mul_work_2 slice-write-work add_i loop_less
     loop_again same_length returns)

@@ -7,7 +7,7 @@ use Rattle.values.proofs.nodes.first_item.Statement.{statement}
 use Rattle.values.proofs.nodes.first_item.Tie as tie
 
 returns : tie.Need-returns
-returns c = record { long = λ made. ap (◌+◌ 1) (c.nodes-under.ensures.0 made); within = omega (arith, c.nodes-under.ensures.1) }
+returns c = record { long = λ made. ap (◌+◌ 1) (c.nodes_under.ensures.0 made); within = omega (arith, c.nodes_under.ensures.1) }
 
 pub first_item_spec : {M : Type 1} → statement M
 first_item_spec =

@@ -3,11 +3,11 @@ use borrow.Author.Rules.{rules}
 use Rattle.values.proofs.nodes.leveled_word.Statement.{statement}
 use Rattle.values.proofs.nodes.leveled_word.Tie as tie
 
-returns : tie.Need-returns
-returns c = rw c.before.if1.true c.lowered-word.ensures
+returns : tie.Need-returns-then-up
+returns c = rw c.if-up.true c.lowered_word.ensures
 
-returns-2 : tie.Need-returns-2
-returns-2 c = rw c.before.if1.false c.raised-word.ensures
+returns-2 : tie.Need-returns
+returns-2 c = rw c.if-up.false c.raised_word.ensures
 
 pub leveled_word_spec : {M : Type 1} → statement M
 leveled_word_spec =

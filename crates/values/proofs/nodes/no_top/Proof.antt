@@ -10,9 +10,9 @@ use Rattle.values.proofs.nodes.no_top.Tie as tie
 
 returns : tie.Need-returns
 returns c =
-    let s = c.before.before in
+    let s = c in
     let a = s.args in
-    λ made. ap₂ eqb (c.nodes-under.ensures.0 made) (sym (length_value made a.work.now a.start a.len s.requires)) ∙ all_under
+    λ made. ap₂ eqb (c.nodes_under.ensures.0 made) (sym (length_value made a.work.now a.start a.len s.requires)) ∙ all_under
     (value_at made a.work.now a.start a.len)
 
 pub no_top_spec : {M : Type 1} → statement M
