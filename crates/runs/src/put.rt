@@ -51,7 +51,7 @@ fn put_contents(work: &mut [u32], at: At)
 }
 
 // Puts the view back through the entry.
-#[cycle(put_put_and_then_put_beside_put_bind_put_choose_put_each_put_test_put_within)]
+#[cycle(putting)]
 pub fn put(
     prog: &[u8],
     entries: &[u16],
@@ -87,7 +87,7 @@ pub fn put(
 }
 
 // 07: the view element's own mark, and its contents through X.
-#[cycle(put_put_and_then_put_beside_put_bind_put_choose_put_each_put_test_put_within)]
+#[cycle(putting)]
 fn put_within(
     prog: &[u8],
     entries: &[u16],
@@ -119,7 +119,7 @@ fn put_within(
 }
 
 // 08: through X2 over what X1 shows, then through X1.
-#[cycle(put_put_and_then_put_beside_put_bind_put_choose_put_each_put_test_put_within)]
+#[cycle(putting)]
 fn put_and_then(
     prog: &[u8],
     entries: &[u16],
@@ -153,7 +153,7 @@ fn put_and_then(
 }
 
 // 09: the view is cut by what the two parts show; X2, then X1, and the two sources merged.
-#[cycle(put_put_and_then_put_beside_put_bind_put_choose_put_each_put_test_put_within)]
+#[cycle(putting)]
 fn put_beside(
     prog: &[u8],
     entries: &[u16],
@@ -190,7 +190,7 @@ fn put_beside(
 }
 
 // 0A: item by item.
-#[cycle(put_put_and_then_put_beside_put_bind_put_choose_put_each_put_test_put_within)]
+#[cycle(putting)]
 fn put_each(
     prog: &[u8],
     entries: &[u16],
@@ -237,7 +237,7 @@ fn put_each(
 }
 
 // 0B: the branch that showing took, then P.
-#[cycle(put_put_and_then_put_beside_put_bind_put_choose_put_each_put_test_put_within)]
+#[cycle(putting)]
 fn put_choose(
     prog: &[u8],
     entries: &[u16],
@@ -266,7 +266,7 @@ fn put_choose(
 }
 
 // 0C: the slot starts untouched, and its value is handed back.
-#[cycle(put_put_and_then_put_beside_put_bind_put_choose_put_each_put_test_put_within)]
+#[cycle(putting)]
 fn put_bind(
     prog: &[u8],
     entries: &[u16],
@@ -294,7 +294,7 @@ fn put_bind(
 }
 
 // P over what the branch handed back, at top. 11: locked into the source text, and X's result back locked.
-#[cycle(put_put_and_then_put_beside_put_bind_put_choose_put_each_put_test_put_within)]
+#[cycle(putting)]
 fn put_test(
     prog: &[u8],
     entries: &[u16],

@@ -132,7 +132,7 @@ fn show_contents(
 }
 
 // Runs the entry on the source, an extent below top.
-#[cycle(show_show_and_then_show_beside_show_bind_show_choose_show_each_show_within_test_test_equals)]
+#[cycle(showing)]
 pub fn show(
     prog: &[u8],
     entries: &[u16],
@@ -170,7 +170,7 @@ pub fn show(
 }
 
 // 07: an element with contents run through X.
-#[cycle(show_show_and_then_show_beside_show_bind_show_choose_show_each_show_within_test_test_equals)]
+#[cycle(showing)]
 fn show_within(
     prog: &[u8],
     entries: &[u16],
@@ -214,7 +214,7 @@ fn show_within(
 }
 
 // 08: X1, then X2 on its result.
-#[cycle(show_show_and_then_show_beside_show_bind_show_choose_show_each_show_within_test_test_equals)]
+#[cycle(showing)]
 fn show_and_then(
     prog: &[u8],
     entries: &[u16],
@@ -252,7 +252,7 @@ fn show_and_then(
 }
 
 // 09: both on the same source, joined.
-#[cycle(show_show_and_then_show_beside_show_bind_show_choose_show_each_show_within_test_test_equals)]
+#[cycle(showing)]
 fn show_beside(
     prog: &[u8],
     entries: &[u16],
@@ -291,7 +291,7 @@ fn show_beside(
 }
 
 // 0A: X on each top node, joined.
-#[cycle(show_show_and_then_show_beside_show_bind_show_choose_show_each_show_within_test_test_equals)]
+#[cycle(showing)]
 fn show_each(
     prog: &[u8],
     entries: &[u16],
@@ -335,7 +335,7 @@ fn show_each(
 }
 
 // 0B: if P then X1 else X2.
-#[cycle(show_show_and_then_show_beside_show_bind_show_choose_show_each_show_within_test_test_equals)]
+#[cycle(showing)]
 fn show_choose(
     prog: &[u8],
     entries: &[u16],
@@ -362,7 +362,7 @@ fn show_choose(
 }
 
 // 0C: bind the slot to the source, run X on nothing.
-#[cycle(show_show_and_then_show_beside_show_bind_show_choose_show_each_show_within_test_test_equals)]
+#[cycle(showing)]
 fn show_bind(
     prog: &[u8],
     entries: &[u16],
@@ -384,7 +384,7 @@ fn show_bind(
 }
 
 // Runs the test on the source.
-#[cycle(show_show_and_then_show_beside_show_bind_show_choose_show_each_show_within_test_test_equals)]
+#[cycle(showing)]
 pub fn test(
     prog: &[u8],
     entries: &[u16],
@@ -411,7 +411,7 @@ pub fn test(
 }
 
 // 11: source text equals X run on nothing.
-#[cycle(show_show_and_then_show_beside_show_bind_show_choose_show_each_show_within_test_test_equals)]
+#[cycle(showing)]
 fn test_equals(
     prog: &[u8],
     entries: &[u16],

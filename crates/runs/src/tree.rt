@@ -129,7 +129,7 @@ fn is_asked(operation: u8, test: bool) -> bool
 }
 
 // The subtree at an entry, where a test is asked for or a transformation.
-#[cycle(check_at_check_below_check_choice_check_two)]
+#[cycle(checking)]
 fn check_at(
     prog: &[u8],
     entries: &[u16],
@@ -171,7 +171,7 @@ fn check_at(
 }
 
 // The sub-entries of an operation, from `entry` on.
-#[cycle(check_at_check_below_check_choice_check_two)]
+#[cycle(checking)]
 fn check_below(
     prog: &[u8],
     entries: &[u16],
@@ -198,7 +198,7 @@ fn check_below(
 }
 
 // X1 X2
-#[cycle(check_at_check_below_check_choice_check_two)]
+#[cycle(checking)]
 fn check_two(
     prog: &[u8],
     entries: &[u16],
@@ -220,7 +220,7 @@ fn check_two(
 }
 
 // P X1 X2
-#[cycle(check_at_check_below_check_choice_check_two)]
+#[cycle(checking)]
 fn check_choice(
     prog: &[u8],
     entries: &[u16],

@@ -5,15 +5,15 @@ use Rattle.lines.specs.Engine.Starts.{pair_at, bytes_from, text_at}
 use Rattle.runs.proofs.lookup.agree.Statement.{statement}
 use Rattle.runs.proofs.lookup.agree.Tie as tie
 
-returns : tie.Need-returns
-returns c = rw c.before.before.source.given.1 c.agrees-with.ensures
+returns : tie.Need-returns-in-Master
+returns c = rw c.in-Master.is c.agrees_with.ensures
 
-returns-2 : tie.Need-returns-2
-returns-2 c = rw c.before.before.source2.given.1 c.agrees-with2.ensures
+returns-2 : tie.Need-returns-in-Program
+returns-2 c = rw c.in-Program.is c.agrees_with-in-Program.ensures
 
-returns-3 : tie.Need-returns-3
+returns-3 : tie.Need-returns-in-Missing
 unfolding text_at pair_at hex_value bytes_from
-returns-3 c = rw c.before.before.enum_told.given.1 c.agrees-with3.ensures
+returns-3 c = rw c.in-Missing.is c.agrees_with-in-Missing.ensures
 
 pub agree_spec : {M : Type 1} → statement M
 agree_spec =

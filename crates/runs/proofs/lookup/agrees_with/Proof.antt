@@ -5,15 +5,15 @@ use Rattle.lines.specs.Engine.Starts.{pair_at, bytes_from, text_at}
 use Rattle.runs.proofs.lookup.agrees_with.Statement.{statement}
 use Rattle.runs.proofs.lookup.agrees_with.Tie as tie
 
-returns : tie.Need-returns
-returns c = rw c.before.before.other.given.1 c.texts-agree.ensures
+returns : tie.Need-returns-in-Master
+returns c = rw c.in-Master.is c.texts_agree.ensures
 
-returns-2 : tie.Need-returns-2
-returns-2 c = rw c.before.before.other2.given.1 c.texts-agree2.ensures
+returns-2 : tie.Need-returns-in-Program
+returns-2 c = rw c.in-Program.is c.texts_agree-in-Program.ensures
 
-returns-3 : tie.Need-returns-3
+returns-3 : tie.Need-returns-in-Missing
 unfolding text_at pair_at hex_value bytes_from
-returns-3 c = rw c.before.before.enum_told.given.1 c.texts-agree3.ensures
+returns-3 c = rw c.in-Missing.is c.texts_agree-in-Missing.ensures
 
 pub agrees_with_spec : {M : Type 1} → statement M
 agrees_with_spec =

@@ -4,14 +4,14 @@ use borrow.Author.Rules.{rules}
 use Rattle.runs.proofs.lookup.len_of.Statement.{statement}
 use Rattle.runs.proofs.lookup.len_of.Tie as tie
 
-returns : tie.Need-returns
-returns c = rw c.before.before.node.given.1 c.text-len.ensures
+returns : tie.Need-returns-in-Master
+returns c = rw c.in-Master.is c.text_len.ensures
 
-returns-2 : tie.Need-returns-2
-returns-2 c = rw c.before.before.node2.given.1 c.text-len2.ensures
+returns-2 : tie.Need-returns-in-Program
+returns-2 c = rw c.in-Program.is c.text_len-in-Program.ensures
 
-returns-3 : tie.Need-returns-3
-returns-3 c = rw c.enum_told.given.1 refl
+returns-3 : tie.Need-returns-in-Missing
+returns-3 c = rw c.in-Missing.is refl
 
 pub len_of_spec : {M : Type 1} → statement M
 len_of_spec =

@@ -14,18 +14,18 @@ use Rattle.runs.proofs.put.put_contents.Tie as tie
 
 copy-requires : tie.Need-copy-requires
 copy-requires c κs =
-    let after-fill = c.before.before.before.before.before in
-    let l = after-fill.fill.auto.0 in
+    let after-fill = c in
+    let l = after-fill.fill.auto.work in
     (omega arith, inr (omega arith))
 
 returns : tie.Need-returns
 returns c =
-    let after-fill = c.before.before.before.before.before.before.before.before in
-    let a = after-fill.before.before.before.args in
+    let after-fill = c in
+    let a = after-fill.args in
     let w = a.work.now in
     let f = kept_below w a.at.top (replicate 1 0) after-fill.fill.ensures (omega arith) in
-    c.before.before.copy.ensures ∙ ap₂ (λ (x y : List ℕ). put_at x (a.at.top + 1) y) after-fill.fill.ensures
-    (frame_part w after-fill.fill.new.0 a.at.top a.at.view (a.at.len - 1) f (omega arith))
+    c.copy.ensures ∙ ap₂ (λ (x y : List ℕ). put_at x (a.at.top + 1) y) after-fill.fill.ensures
+    (frame_part w after-fill.fill.new.work a.at.top a.at.view (a.at.len - 1) f (omega arith))
 
 pub put_contents_spec : {M : Type 1} → statement M
 put_contents_spec =

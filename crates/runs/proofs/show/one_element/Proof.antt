@@ -8,33 +8,33 @@ use Rattle.runs.proofs.show.one_element.Statement.{statement}
 use Rattle.runs.proofs.show.one_element.Tie as tie
 
 -- the entry, seen from a later place
-abbrev from_one_top : tie.After-one-top → tie.Start
+abbrev from_one_top : tie.After-one_top → tie.Start
 from_one_top p = p.before.before.before.before.before.before
 
-returns : tie.Need-returns
+returns : tie.Need-returns-then-not-one_top
 returns c =
     let s = from_one_top c.before in
     let a = s.args in
-    says_no_element (made_by (entries_of a.prog.now a.entries.now)) a.work.now a.start a.len s.pre
+    says_no_element (made_by (entries_of a.prog.now a.entries.now)) a.work.now a.start a.len s.requires
     (lookup_of (lines_of a.master.now a.nodes.now))
-    (found_no (c.before.one-top.ensures (made_by (entries_of a.prog.now a.entries.now))) c.if1.true)
+    (found_no (c.one_top.ensures (made_by (entries_of a.prog.now a.entries.now))) c.if-not-one_top.true-raw)
 
-shared-slice-read-is-element-word : tie.Need-shared-slice-read-is-element-word
+shared-slice-read-is-element-word : tie.Need-bounds-work-start
 shared-slice-read-is-element-word c =
     let entry = from_one_top c.before.before in
     let a = entry.args in
-    let s = top_words (made_by (entries_of a.prog.now a.entries.now)) a.work.now a.start a.len entry.pre
-    (found_yes (c.before.before.one-top.ensures (made_by (entries_of a.prog.now a.entries.now))) c.before.if1.false) in
-    omega (arith, entry.pre)
+    let s = top_words (made_by (entries_of a.prog.now a.entries.now)) a.work.now a.start a.len entry.requires
+    (found_yes (c.one_top.ensures (made_by (entries_of a.prog.now a.entries.now))) c.if-not-one_top.false-raw) in
+    omega (arith, entry.requires)
 
-returns-2 : tie.Need-returns-2
+returns-2 : tie.Need-returns
 returns-2 c =
     let after-one-top = c.before.before.before in
     let s = from_one_top after-one-top in
     let a = s.args in
-    says_element (made_by (entries_of a.prog.now a.entries.now)) a.work.now a.start a.len s.pre
+    says_element (made_by (entries_of a.prog.now a.entries.now)) a.work.now a.start a.len s.requires
     (lookup_of (lines_of a.master.now a.nodes.now))
-    (found_yes (after-one-top.one-top.ensures (made_by (entries_of a.prog.now a.entries.now))) c.before.before.if1.false) _ c.is-element-word.ensures
+    (found_yes (after-one-top.one_top.ensures (made_by (entries_of a.prog.now a.entries.now))) c.if-not-one_top.false-raw) _ c.is_element_word.ensures
 
 pub one_element_spec : {M : Type 1} → statement M
 one_element_spec =

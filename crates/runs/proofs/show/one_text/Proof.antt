@@ -7,22 +7,22 @@ use Rattle.runs.proofs.show.one_text.Statement.{statement}
 use Rattle.runs.proofs.show.one_text.Tie as tie
 
 -- the entry, seen from a later place
-abbrev from_shared_slice_known5 : tie.After-shared-slice-known5 → tie.Start
+abbrev from_shared_slice_known5 : tie.After-shared_slice_known-5-1 → tie.Start
 from_shared_slice_known5 p = p.before.before.before.before.before
 
-returns : tie.Need-returns
+returns : tie.Need-returns-then-len-ne1
 returns c =
     let s = from_shared_slice_known5 c.before in
     let a = s.args in
-    says_no_text (made_by (entries_of a.prog.now a.entries.now)) a.work.now a.start a.len s.pre
-    (lookup_of (lines_of a.master.now a.nodes.now)) c.if1.true
+    says_no_text (made_by (entries_of a.prog.now a.entries.now)) a.work.now a.start a.len s.requires
+    (lookup_of (lines_of a.master.now a.nodes.now)) c.if-len-ne1.true
 
-returns-2 : tie.Need-returns-2
+returns-2 : tie.Need-returns
 returns-2 c =
     let s = from_shared_slice_known5 c.before.before.before in
     let a = s.args in
-    says_text (made_by (entries_of a.prog.now a.entries.now)) a.work.now a.start a.len s.pre
-    (lookup_of (lines_of a.master.now a.nodes.now)) c.before.before.if1.false _ c.is-element-word.ensures
+    says_text (made_by (entries_of a.prog.now a.entries.now)) a.work.now a.start a.len s.requires
+    (lookup_of (lines_of a.master.now a.nodes.now)) c.if-len-ne1.false _ c.is_element_word.ensures
 
 pub one_text_spec : {M : Type 1} → statement M
 one_text_spec =

@@ -5,15 +5,15 @@ use Rattle.runs.proofs.ShowSources.{says_one_top, says_no_top}
 use Rattle.runs.proofs.show.one_top.Statement.{statement}
 use Rattle.runs.proofs.show.one_top.Tie as tie
 
-returns : tie.Need-returns
+returns : tie.Need-returns-then-len-eq0
 returns c =
-    let s = c.before.before in
+    let s = c in
     let a = s.args in
-    λ made. says_no_top made a.work.now a.start a.len s.requires c.if1.true
+    λ made. says_no_top made a.work.now a.start a.len s.requires c.if-len-eq0.true
 
-returns-2 : tie.Need-returns-2
+returns-2 : tie.Need-returns
 returns-2 c =
-    let s = c.before.before.before in
+    let s = c in
     let a = s.args in
     λ made. says_one_top made a.work.now a.start a.len s.requires (omega arith) _ (c.no_top.ensures made)
 

@@ -11,8 +11,8 @@ copy-requires c κs = (omega arith, inr (omega arith))
 
 returns : tie.Need-returns
 returns c =
-    let a = c.before.before.before.before.before.args in
-    λ made. copied made a.work.now a.at.top a.at.start a.at.len c.before.before.copy.ensures (omega arith) (omega arith) (omega arith)
+    let a = c.args in
+    λ made. copied made a.work.now a.at.top a.at.start a.at.len c.copy.ensures (omega arith) (omega arith) (omega arith)
 
 pub show_source_spec : {M : Type 1} → statement M
 show_source_spec = tie.close (tie.spec copy-requires (λ c. search rules) returns)

@@ -10,7 +10,7 @@ use Rattle.runs.proofs.tree.inside_bind.Tie as tie
 
 returns : tie.Need-returns
 returns c =
-    let s = c.before.before in
+    let s = c in
     let a = s.args in
     let p = s.requires.0 in (
       record { four = length-set a.room.bytes a.room.count a.byte ∙ p.four; places = omega arith },

@@ -22,17 +22,17 @@ unfolding stands
 told_none true = refl
 told_none false = refl
 
-returns : tie.Need-returns
+returns : tie.Need-returns-in-Transformation
 unfolding stands
-returns c = rw (← c.before.before.class_of.ensures, c.enum_told.given.1) (told_not c.before.before.before.args.test)
+returns c = rw (← c.class_of-class.ensures, c.in-Transformation.is) (told_not c.args.test)
 
-returns-2 : tie.Need-returns-2
+returns-2 : tie.Need-returns-in-Test
 unfolding stands
-returns-2 c = rw (← c.before.before.class_of.ensures, c.enum-told2.given.1) (told c.before.before.before.args.test)
+returns-2 c = rw (← c.class_of-class.ensures, c.in-Test.is) (told c.args.test)
 
-returns-3 : tie.Need-returns-3
+returns-3 : tie.Need-returns-in-Unknown
 unfolding stands
-returns-3 c = rw (← c.before.before.class_of.ensures, c.enum-told3.given.1) (told_none c.before.before.before.args.test)
+returns-3 c = rw (← c.class_of-class.ensures, c.in-Unknown.is) (told_none c.args.test)
 
 pub is_asked_spec : {M : Type 1} → statement M
 is_asked_spec =

@@ -6,40 +6,40 @@ use Rattle.runs.specs.Engine.Checking.{may_stand, room_inside}
 use Rattle.runs.proofs.tree.room_below.Statement.{statement}
 use Rattle.runs.proofs.tree.room_below.Tie as tie
 
-inside-each-requires : tie.Need-inside-each-requires
+inside-each-requires : tie.Need-inside_each-requires
 unfolding may_stand
 inside-each-requires c κs =
-    let s = c.before in
+    let s = c in
     let b = s.args.operation in
     let o : b ≡ 0x0A = omega arith in
     (s.requires.0, leb-true 1 _ (rw o at s.requires.1))
 
-inside-bind-requires : tie.Need-inside-bind-requires
+inside-bind-requires : tie.Need-inside_bind-requires
 unfolding may_stand
 inside-bind-requires c κs =
-    let s = c.before in
+    let s = c in
     let b = s.args.operation in
     let o : b ≡ 0x0C = omega arith in
     (s.requires.0, leb-true 1 _ (rw o at s.requires.1))
 
-returns : tie.Need-returns
+returns : tie.Need-returns-in-10
 unfolding room_inside
 returns c =
-    let b = c.before.before.args.operation in
+    let b = c.args.operation in
     let o : b ≡ 0x0A = omega arith in
-    (c.inside-each.ensures.0, rw o c.inside-each.ensures.1)
+    (c.inside_each.ensures.0, rw o c.inside_each.ensures.1)
 
-returns-2 : tie.Need-returns-2
+returns-2 : tie.Need-returns-in-12
 unfolding room_inside
 returns-2 c =
-    let b = c.before.before.args.operation in
+    let b = c.args.operation in
     let o : b ≡ 0x0C = omega arith in
-    (c.inside-bind.ensures.0, rw o c.inside-bind.ensures.1)
+    (c.inside_bind.ensures.0, rw o c.inside_bind.ensures.1)
 
-returns-3 : tie.Need-returns-3
+returns-3 : tie.Need-returns-in_default
 unfolding room_inside
 returns-3 c =
-    let s = c.before in
+    let s = c in
     let b = s.args.operation in
     (s.requires.0, rw (ne_eqb b 0x0A (λ e. omega arith), ne_eqb b 0x0C (λ e. omega arith)))
 

@@ -8,20 +8,20 @@ use Rattle.sweeping.proofs.removal.behind_at.Statement.{statement}
 use Rattle.sweeping.proofs.removal.behind_at.Tie as tie
 
 -- where the mark is read, nothing stands above
-open_above : (p : tie.After-mark-at) → is_under p.before.before.before.before.before.args.above p.before.before.before.depth-at.result ≡ false
-open_above p = sym p.before.before.is-under.ensures ∙ p.before.if1.false
+open_above : (p : tie.After-mark_at) → is_under p.args.above p.depth_at-depth.result ≡ false
+open_above p = sym p.is_under.ensures ∙ p.if-is_under.false
 
-returns : tie.Need-returns
+returns : tie.Need-returns-then-is_under
 unfolding behind
-returns c = rw (← c.before.before.depth-at.ensures, sym c.before.is-under.ensures ∙ c.if1.true)
+returns c = rw (← c.depth_at-depth.ensures, sym c.is_under.ensures ∙ c.if-is_under.true)
 
-returns-2 : tie.Need-returns-2
+returns-2 : tie.Need-returns-then-mark_at-eq2
 unfolding behind is_deleted
-returns-2 c = let m = c.before in rw (← m.before.before.before.depth-at.ensures, open_above m, ← m.mark-at.ensures, eq-eqb _ 2 c.if2.true)
+returns-2 c = let m = c.before in rw (← m.depth_at-depth.ensures, open_above m, ← m.mark_at.ensures, eq-eqb _ 2 c.if-mark_at-eq2.true)
 
-returns-3 : tie.Need-returns-3
+returns-3 : tie.Need-returns
 unfolding behind is_deleted
-returns-3 c = let m = c.before in rw (← m.before.before.before.depth-at.ensures, open_above m, ← m.mark-at.ensures, ne_eqb _ 2 c.if2.false)
+returns-3 c = let m = c.before in rw (← m.depth_at-depth.ensures, open_above m, ← m.mark_at.ensures, ne_eqb _ 2 c.if-mark_at-eq2.false)
 
 pub behind_at_spec : {M : Type 1} → statement M
 behind_at_spec = tie.close (tie.spec (λ c κs. search rules) (λ c κs. search rules) returns (λ c κs. search rules) returns-2 returns-3)

@@ -4,13 +4,13 @@ use Rattle.sweeping.specs.Sweeping.{is_under}
 use Rattle.sweeping.proofs.removal.is_under.Statement.{statement}
 use Rattle.sweeping.proofs.removal.is_under.Tie as tie
 
-returns : tie.Need-returns
+returns : tie.Need-returns-in-Nothing
 unfolding is_under
-returns c = rw c.enum_told.given.1
+returns c = rw c.in-Nothing.is
 
-returns-2 : tie.Need-returns-2
+returns-2 : tie.Need-returns-in-Deleted
 unfolding is_under
-returns-2 c = rw c.before.above.given.1
+returns-2 c = rw c.in-Deleted.is
 
 pub is_under_spec : {M : Type 1} → statement M
 is_under_spec = tie.close (tie.spec (λ c. search rules) (λ c. search rules) returns returns-2)

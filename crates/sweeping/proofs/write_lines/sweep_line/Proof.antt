@@ -12,35 +12,35 @@ use Rattle.sweeping.proofs.SweptLines.{anew_headed}
 use Rattle.sweeping.proofs.write_lines.sweep_line.Statement.{statement}
 use Rattle.sweeping.proofs.write_lines.sweep_line.Tie as tie
 
-abbrev entered : tie.After-node-text → tie.Start
+abbrev entered : tie.After-node_text → tie.Start
 entered p = p.before.before.before.before.before.before.before.before
 
 -- what stays, and the line that it becomes
-module _ (p : tie.After-node-text) where
+module _ (p : tie.After-node_text) where
   abbrev a : tie.Start
   a = entered p
 
   stays : goes a.args.above (node_at a.args.s.now a.args.start) ≡ false
-  stays = sym p.before.before.before.before.before.Goes-at.ensures ∙ p.before.before.before.before.if1.left
+  stays = sym p.goes_at.ensures ∙ p.if-goes_at.left
 
-  becomes : headed (record { depth = p.before.before.before.depth-at.result; kind = p.before.before.kind_at.result; mark = 0; number = a.args.so_far.count })
-      (text_at a.args.s.now p.node-text.result) ≡ anew a.args.so_far.count (node_at a.args.s.now a.args.start)
+  becomes : headed (record { depth = p.depth_at.result; kind = p.kind_at.result; mark = 0; number = a.args.so_far.count })
+      (text_at a.args.s.now p.node_text.result) ≡ anew a.args.so_far.count (node_at a.args.s.now a.args.start)
   becomes =
-      anew_headed a.args.so_far.count (node_at a.args.s.now a.args.start) p.before.before.before.depth-at.ensures
-      p.before.before.kind_at.ensures (text_at_place a.args.s.now a.args.start p.node-text.ensures)
+      anew_headed a.args.so_far.count (node_at a.args.s.now a.args.start) p.depth_at.ensures
+      p.kind_at.ensures (text_at_place a.args.s.now a.args.start p.node_text.ensures)
 
-returns : tie.Need-returns
+returns : tie.Need-returns-then-goes_at
 returns c =
-    let t = sym c.before.Goes-at.ensures ∙ c.if1.true in
+    let t = sym c.goes_at.ensures ∙ c.if-goes_at.true in
     record { gone = λ e. (refl, refl); stays = λ e. never (sym e ∙ t) }
 
-write-line-requires : tie.Need-write-line-requires
-write-line-requires c κs = let s = entered c in room_as (becomes c) s.args.so_far.pos (s.pre.room (stays c))
+write-line-requires : tie.Need-write_line-end-requires
+write-line-requires c κs = let s = entered c in room_as (becomes c) s.args.so_far.pos (s.requires.room (stays c))
 
-returns-2 : tie.Need-returns-2
+returns-2 : tie.Need-returns
 returns-2 c =
     let w = c.before.before in
-    record { gone = λ e. never (sym (stays w.before) ∙ e); stays = λ e. (written_as (becomes w.before) w.write-line.ensures, refl) }
+    record { gone = λ e. never (sym (stays w.before) ∙ e); stays = λ e. (written_as (becomes w.before) w.write_line-end.ensures, refl) }
 
 pub sweep_line_spec : {M : Type 1} → statement M
 sweep_line_spec =

@@ -6,15 +6,15 @@ use Rattle.sweeping.proofs.NumberLines.{number_stored}
 use Rattle.sweeping.proofs.write_numbers.write_number.Statement.{statement}
 use Rattle.sweeping.proofs.write_numbers.write_number.Tie as tie
 
-same_length : tie.Need-same-length
+same_length : tie.Need-shape_of-out
 same_length c = simp length-set (omega arith)
 
 returns : tie.Need-returns
 returns c =
-    let low = c.before.before in
+    let low = c in
     let high = low.before.before.before.before in
     let s = high.before.before.before in
-    number_stored _ _ _ high.put_byte.ensures low.put-byte2.ensures s.requires
+    number_stored _ _ _ high.put_byte.ensures low.put_byte-2.ensures s.requires
 
 pub write_number_spec : {M : Type 1} → statement M
 write_number_spec =

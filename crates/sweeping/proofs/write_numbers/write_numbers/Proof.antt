@@ -9,52 +9,51 @@ use Rattle.sweeping.proofs.NumberLines.{Numbering, numbering_starts, numbering_r
 use Rattle.sweeping.proofs.write_numbers.write_numbers.Statement.{statement}
 use Rattle.sweeping.proofs.write_numbers.write_numbers.Tie as tie
 
-abbrev invariant-loop : tie.invariant-loop
-invariant-loop s nodes out₀ above₀ next₀ i₀ out above next i = Numbering (lines_of s nodes) out₀ out above next i
+abbrev invariant-loop-i : tie.invariant-loop-i
+invariant-loop-i s nodes out₀ above₀ next₀ i₀ out above next i = Numbering (lines_of s nodes) out₀ out above next i
 
-abbrev decreases-loop : tie.decreases-loop
-decreases-loop s nodes out₀ above₀ next₀ i₀ out above next i = length nodes - i
+abbrev decreases-loop-i : tie.decreases-loop-i
+decreases-loop-i s nodes out₀ above₀ next₀ i₀ out above next i = length nodes - i
 
-abbrev entered : tie.At-loop invariant-loop decreases-loop → tie.Start invariant-loop decreases-loop
+abbrev entered : tie.At-loop-i invariant-loop-i decreases-loop-i → tie.Start invariant-loop-i decreases-loop-i
 entered p = p.before.before.before.before
 
-loop_holds : tie.Need-loop-init invariant-loop decreases-loop
-loop_holds c = numbering_starts c.before.before.before.requires
+loop_holds : tie.Need-loop-i-init invariant-loop-i decreases-loop-i
+loop_holds c = numbering_starts c.requires
 
-mul_give_number : tie.Need-overflow-mul-give-number invariant-loop decreases-loop
+mul_give_number : tie.Need-overflow_mul-i invariant-loop-i decreases-loop-i
 mul_give_number c =
     let p = c.before.before.before in
     let s = entered p.before in
-    omega (arith, inside s.args.s.now s.args.nodes.now _ p.loop-test.true, s.pre.few)
+    omega (arith, inside s.args.s.now s.args.nodes.now _ p.loop-i-test.true, s.requires.few)
 
-give-number-requires : tie.Need-give-number-requires invariant-loop decreases-loop
+give-number-requires : tie.Need-give_number-next-requires invariant-loop-i decreases-loop-i
 give-number-requires c κs =
     let p = c.before.before.before in
-    let h = p.loop-test.true in
+    let h = p.loop-i-test.true in
     let l = p.before in
     let s = entered l in
-    numbering_room s.pre l.loop.invariant (inside s.args.s.now s.args.nodes.now _ h) (here s.args.s.now s.args.nodes.now _ h)
+    numbering_room s.requires l.loop-i.invariant (inside s.args.s.now s.args.nodes.now _ h) (here s.args.s.now s.args.nodes.now _ h)
 
-loop_again : tie.Need-loop-preserved invariant-loop decreases-loop
+loop_again : tie.Need-loop-i-preserved invariant-loop-i decreases-loop-i
 loop_again c =
-    let g = c.before.before.before in
+    let g = c in
     let p = g.before.before.before.before in
-    let h = p.loop-test.true in
+    let h = p.loop-i-test.true in
     let l = p.before in
     let s = entered l in
-    let given = rw g.before.before.Goes-at.ensures at g.give-number.ensures in
-    rw c.behind-at.ensures
-    (numbering_goes_on s.pre l.loop.invariant (inside s.args.s.now s.args.nodes.now _ h) (here s.args.s.now s.args.nodes.now _ h) given)
+    let given = rw g.goes_at.ensures at g.give_number-next.ensures in
+    rw c.behind_at-above.ensures
+    (numbering_goes_on s.requires l.loop-i.invariant (inside s.args.s.now s.args.nodes.now _ h) (here s.args.s.now s.args.nodes.now _ h) given)
 
-same_length : tie.Need-same-length invariant-loop decreases-loop
-same_length c = c.before.loop.invariant.long
+same_length : tie.Need-shape_of-out invariant-loop-i decreases-loop-i
+same_length c = c.loop-i.invariant.long
 
-returns : tie.Need-returns invariant-loop decreases-loop
+returns : tie.Need-returns invariant-loop-i decreases-loop-i
 returns c =
     let s = entered c.before in
-    numbering_ends s.pre c.before.loop.invariant (all_gone_over s.args.s.now s.args.nodes.now _ c.loop-test.false)
+    numbering_ends s.requires c.loop-i.invariant (all_gone_over s.args.s.now s.args.nodes.now _ c.loop-i-test.false)
 
 pub write_numbers_spec : {M : Type 1} → statement M
 write_numbers_spec =
-    tie.close (tie.spec invariant-loop decreases-loop loop_holds (λ c. search rules) (λ c. search rules) (λ c κs. search rules) mul_give_number give-number-requires
-    (λ c κs. search rules) (λ c. search rules) (λ c. omega arith) loop_again same_length returns)
+    tie.close (tie.spec invariant-loop-i decreases-loop-i loop_holds (λ c. search rules) (λ c. search rules) (λ c κs. search rules) mul_give_number give-number-requires (λ c κs. search rules) (λ c. search rules) (λ c. search rules) loop_again same_length returns)
