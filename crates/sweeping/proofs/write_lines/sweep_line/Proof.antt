@@ -21,7 +21,7 @@ module _ (p : tie.After-node_text) where
   a = entered p
 
   stays : goes a.args.above (node_at a.args.s.now a.args.start) ≡ false
-  stays = sym p.goes_at.ensures ∙ p.if-goes_at.left
+  stays = sym p.goes_at.ensures ∙ p.if-goes_at.false
 
   becomes : headed (record { depth = p.depth_at.result; kind = p.kind_at.result; mark = 0; number = a.args.so_far.count })
       (text_at a.args.s.now p.node_text.result) ≡ anew a.args.so_far.count (node_at a.args.s.now a.args.start)

@@ -15,44 +15,31 @@ invariant-loop-i s nodes out₀ above₀ next₀ i₀ out above next i = Numberi
 abbrev decreases-loop-i : tie.decreases-loop-i
 decreases-loop-i s nodes out₀ above₀ next₀ i₀ out above next i = length nodes - i
 
-abbrev entered : tie.At-loop-i invariant-loop-i decreases-loop-i → tie.Start invariant-loop-i decreases-loop-i
-entered p = p.before.before.before.before
-
 loop_holds : tie.Need-loop-i-init invariant-loop-i decreases-loop-i
 loop_holds c = numbering_starts c.requires
 
 mul_give_number : tie.Need-overflow_mul-i invariant-loop-i decreases-loop-i
 mul_give_number c =
-    let p = c.before.before.before in
-    let s = entered p.before in
-    omega (arith, inside s.args.s.now s.args.nodes.now _ p.loop-i-test.true, s.requires.few)
+    omega (arith, inside c.args.s.now c.args.nodes.now _ c.loop-i-test.true, c.requires.few)
 
 give-number-requires : tie.Need-give_number-next-requires invariant-loop-i decreases-loop-i
 give-number-requires c κs =
-    let p = c.before.before.before in
-    let h = p.loop-i-test.true in
-    let l = p.before in
-    let s = entered l in
-    numbering_room s.requires l.loop-i.invariant (inside s.args.s.now s.args.nodes.now _ h) (here s.args.s.now s.args.nodes.now _ h)
+    let h = c.loop-i-test.true in
+    numbering_room c.requires c.loop-i.invariant (inside c.args.s.now c.args.nodes.now _ h) (here c.args.s.now c.args.nodes.now _ h)
 
 loop_again : tie.Need-loop-i-preserved invariant-loop-i decreases-loop-i
 loop_again c =
-    let g = c in
-    let p = g.before.before.before.before in
-    let h = p.loop-i-test.true in
-    let l = p.before in
-    let s = entered l in
-    let given = rw g.goes_at.ensures at g.give_number-next.ensures in
+    let h = c.loop-i-test.true in
+    let given = rw c.goes_at.ensures at c.give_number-next.ensures in
     rw c.behind_at-above.ensures
-    (numbering_goes_on s.requires l.loop-i.invariant (inside s.args.s.now s.args.nodes.now _ h) (here s.args.s.now s.args.nodes.now _ h) given)
+    (numbering_goes_on c.requires c.loop-i.invariant (inside c.args.s.now c.args.nodes.now _ h) (here c.args.s.now c.args.nodes.now _ h) given)
 
 same_length : tie.Need-shape_of-out invariant-loop-i decreases-loop-i
 same_length c = c.loop-i.invariant.long
 
 returns : tie.Need-returns invariant-loop-i decreases-loop-i
 returns c =
-    let s = entered c.before in
-    numbering_ends s.requires c.loop-i.invariant (all_gone_over s.args.s.now s.args.nodes.now _ c.loop-i-test.false)
+    numbering_ends c.requires c.loop-i.invariant (all_gone_over c.args.s.now c.args.nodes.now _ c.loop-i-test.false)
 
 pub write_numbers_spec : {M : Type 1} → statement M
 write_numbers_spec =
