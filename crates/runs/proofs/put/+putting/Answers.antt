@@ -1,4 +1,5 @@
--- What `Rattle` does not find alone of the cycle that puts back: a combinator's function stands on what it requires, `b`, and its file in proofs/ says what follows.
+-- What each function of the cycle asks of the calls below it, and why what it leaves is what it ensures.
+-- A combinator's answers stand on `b`, what its function requires; the laws that they cite are in a file of proofs/ for each.
 use mathlib.Core.Path.{◌≡◌, refl, ◌∙◌}
 use mathlib.Core.List.{List}
 use mathlib.Core.Logic.{inr}
@@ -14,7 +15,7 @@ use Rattle.runs.specs.Engine.Runs.{Ready, ReadyTest, PutSpace, Seen, Asked}
 use Rattle.runs.specs.Theorems.RunAnswers.{got, halted}
 use Rattle.runs.proofs.Lookups.{operation_of, slot_byte, bind_byte}
 use Rattle.runs.proofs.PutLeaves.{source_long, source_back, made_back, slot_found, slot_long, slot_back, contents_long, contents_back}
-use Rattle.runs.proofs.PutRuns.{told, shown_before, Begun, put_facts}
+use Rattle.runs.proofs.PutRuns.{told, shown_before, Begun}
 use Rattle.runs.proofs.PutWithin.{within_levels, within_some, within_asks, within_back}
 use Rattle.runs.proofs.PutThen.{then_levels, then_goes, then_asks_second, then_asks_first, then_back}
 use Rattle.runs.proofs.PutBeside.{beside_levels, first_goes, second_goes, beside_asks_second, beside_asks_first, beside_back}
@@ -66,16 +67,18 @@ put-bounds-entries-at-in-5 t c = in_starts c.args.prog.now c.args.entries.now (h
 
 pub put-put_slot-requires-clause-count_value : goal.put-put_slot-requires-clause-count_value
 put-put_slot-requires-clause-count_value t c =
+    let i = in_starts c.args.prog.now c.args.entries.now (here c.requires.ready_at) in
     let o = operation c.args.prog.now c.args.entries.now (here c.requires.ready_at) c.operation_at-operation.ensures c.in-5.is in
-    let b = slot_byte c.args.prog.now c.args.entries.now c.args.at.entry (in_starts c.args.prog.now c.args.entries.now (here c.requires.ready_at)) c.slot_at.result c.slot_at.ensures o in
-    slot_found c.requires.ready_at c.requires.put_space_at c.requires.seen_at (here c.requires.ready_at).some o b
+    let y = slot_byte c.args.prog.now c.args.entries.now c.args.at.entry i c.slot_at.result c.slot_at.ensures o in
+    slot_found c.requires.ready_at c.requires.put_space_at c.requires.seen_at (here c.requires.ready_at).some o y
 
 pub put-put_slot-requires-clause-byte_in_bounds : goal.put-put_slot-requires-clause-byte_in_bounds
 put-put_slot-requires-clause-byte_in_bounds t c =
     let h = here c.requires.ready_at in
+    let i = in_starts c.args.prog.now c.args.entries.now (here c.requires.ready_at) in
     let o = operation c.args.prog.now c.args.entries.now (here c.requires.ready_at) c.operation_at-operation.ensures c.in-5.is in
-    let b = slot_byte c.args.prog.now c.args.entries.now c.args.at.entry (in_starts c.args.prog.now c.args.entries.now (here c.requires.ready_at)) c.slot_at.result c.slot_at.ensures o in
-    let n = slot_long c.requires.ready_at c.requires.put_space_at c.requires.seen_at (here c.requires.ready_at).some o b in
+    let y = slot_byte c.args.prog.now c.args.entries.now c.args.at.entry i c.slot_at.result c.slot_at.ensures o in
+    let n = slot_long c.requires.ready_at c.requires.put_space_at c.requires.seen_at (here c.requires.ready_at).some o y in
     omega arith
 
 pub put-put_slot-requires-clause-len_in_bounds : goal.put-put_slot-requires-clause-len_in_bounds
@@ -139,9 +142,11 @@ put-returns-in-1 t c =
 
 pub put-returns-in-5 : goal.put-returns-in-5
 put-returns-in-5 t c =
+    let i = in_starts c.args.prog.now c.args.entries.now (here c.requires.ready_at) in
     let o = operation c.args.prog.now c.args.entries.now (here c.requires.ready_at) c.operation_at-operation.ensures c.in-5.is in
-    let b = slot_byte c.args.prog.now c.args.entries.now c.args.at.entry (in_starts c.args.prog.now c.args.entries.now (here c.requires.ready_at)) c.slot_at.result c.slot_at.ensures o in
-    slot_back c.requires.ready_at c.requires.put_space_at c.requires.seen_at (here c.requires.ready_at).some o b c.put_slot.ensures.work_after c.put_slot.ensures.marks_after
+    let y = slot_byte c.args.prog.now c.args.entries.now c.args.at.entry i c.slot_at.result c.slot_at.ensures o in
+    slot_back c.requires.ready_at c.requires.put_space_at c.requires.seen_at (here c.requires.ready_at).some o y
+    c.put_slot.ensures.work_after c.put_slot.ensures.marks_after
 
 pub put-returns-in-6 : goal.put-returns-in-6
 put-returns-in-6 t c =
@@ -162,12 +167,13 @@ put-returns-else-operation-lt13 t c =
 -- ## `put_within`
 
 pub put_within-overflow_sub-rest : goal.put_within-overflow_sub-rest
-put_within-overflow_sub-rest t c = let k = within_some (begun c.requires.ready_at c.requires.put_space_at c.requires.seen_at c.requires.at_value) in k.0
+put_within-overflow_sub-rest t c =
+    (within_some (begun c.requires.ready_at c.requires.put_space_at c.requires.seen_at c.requires.at_value)).0
 
 pub put_within-lower-requires-clause-len_in_bounds : goal.put_within-lower-requires-clause-len_in_bounds
 put_within-lower-requires-clause-len_in_bounds t c =
     let b = begun c.requires.ready_at c.requires.put_space_at c.requires.seen_at c.requires.at_value in
-    let f = put_facts b (within_levels b) (omega arith) in
+    let l = within_levels b in
     let k = within_some b in
     omega arith
 
@@ -177,28 +183,28 @@ put_within-below_on-under-requires t c =
     omega arith
 
 pub put_within-overflow_sub-at : goal.put_within-overflow_sub-at
-put_within-overflow_sub-at t c = let k = within_some (begun c.requires.ready_at c.requires.put_space_at c.requires.seen_at c.requires.at_value) in k.1
+put_within-overflow_sub-at t c =
+    (within_some (begun c.requires.ready_at c.requires.put_space_at c.requires.seen_at c.requires.at_value)).1
 
 pub put_within-put-requires : goal.put_within-put-requires
 put_within-put-requires t c =
     let b = begun c.requires.ready_at c.requires.put_space_at c.requires.seen_at c.requires.at_value in
-    let f = put_facts b (within_levels b) (omega arith) in
-    rw (c.seeing-inner.ensures, c.below_on-under.ensures) (omega arith, (ready_within c.requires.ready_at c.requires.at_value, within_asks b c.lower.ensures))
+    let l = within_levels b in
+    rw (c.seeing-inner.ensures, c.below_on-under.ensures)
+    (omega arith, (ready_within c.requires.ready_at c.requires.at_value, within_asks b c.lower.ensures))
 
 pub put_within-copy-requires-clause-len_in_bounds : goal.put_within-copy-requires-clause-len_in_bounds
 put_within-copy-requires-clause-len_in_bounds t c =
     let b = begun c.requires.ready_at c.requires.put_space_at c.requires.seen_at c.requires.at_value in
-    let f = put_facts b (within_levels b) (omega arith) in
+    let l = within_levels b in
     let k = within_some b in
-    let l = c.put.auto.work ∙ c.lower.auto.work in
     omega arith
 
 pub put_within-copy-requires-2-clause-len_in_bounds : goal.put_within-copy-requires-2-clause-len_in_bounds
 put_within-copy-requires-2-clause-len_in_bounds t c =
     let b = begun c.requires.ready_at c.requires.put_space_at c.requires.seen_at c.requires.at_value in
-    let f = put_facts b (within_levels b) (omega arith) in
+    let l = within_levels b in
     let k = within_some b in
-    let l = c.copy.auto.work ∙ (c.put.auto.work ∙ c.lower.auto.work) in
     omega arith
 
 pub put_within-returns : goal.put_within-returns
@@ -229,7 +235,7 @@ put_and_then-below_on-over-requires t c =
 pub put_and_then-put-requires : goal.put_and_then-put-requires
 put_and_then-put-requires t c =
     let b = begun c.requires.ready_at c.requires.put_space_at c.requires.seen_at c.requires.at_value in
-    let f = put_facts b (then_levels b) (omega arith) in
+    let l = then_levels b in
     let g = got (rw c.below.ensures at c.show.ensures) c.show.auto.work c.in-Value.v c.in-Value.is in
     rw c.below_on-over.ensures
     (omega arith, rw c.after.ensures ((ready_then c.requires.ready_at c.requires.at_value).1, then_asks_second b g refl))
@@ -242,7 +248,7 @@ put_and_then-below_on-under-requires t c =
 pub put_and_then-put-requires-in-Value : goal.put_and_then-put-requires-in-Value
 put_and_then-put-requires-in-Value t c =
     let b = begun c.requires.ready_at c.requires.put_space_at c.requires.seen_at c.requires.at_value in
-    let f = put_facts b (then_levels b) (omega arith) in
+    let l = then_levels b in
     let g = got (rw c.below.ensures at c.show.ensures) c.show.auto.work c.in-Value.v c.in-Value.is in
     rw (c.seeing-first.ensures, c.below_on-under.ensures)
     (omega arith, ((ready_then c.requires.ready_at c.requires.at_value).0,
@@ -250,9 +256,7 @@ put_and_then-put-requires-in-Value t c =
 
 pub put_and_then-copy-requires-clause-len_in_bounds : goal.put_and_then-copy-requires-clause-len_in_bounds
 put_and_then-copy-requires-clause-len_in_bounds t c =
-    let b = begun c.requires.ready_at c.requires.put_space_at c.requires.seen_at c.requires.at_value in
-    let f = put_facts b (then_levels b) (omega arith) in
-    let k = c.put-in-Value.auto.work ∙ (c.put.auto.work ∙ c.show.auto.work) in
+    let l = then_levels (begun c.requires.ready_at c.requires.put_space_at c.requires.seen_at c.requires.at_value) in
     omega arith
 
 pub put_and_then-returns-in-Value : goal.put_and_then-returns-in-Value
@@ -287,7 +291,8 @@ put_beside-below-requires-in-Value t c =
     omega arith
 
 pub put_beside-show-requires-in-Value-clause-ready_at : goal.put_beside-show-requires-in-Value-clause-ready_at
-put_beside-show-requires-in-Value-clause-ready_at t c = rw c.below-in-Value.ensures (rw c.after-x2.ensures (ready_beside c.requires.ready_at c.requires.at_value).1)
+put_beside-show-requires-in-Value-clause-ready_at t c =
+    rw c.below-in-Value.ensures (rw c.after-x2.ensures (ready_beside c.requires.ready_at c.requires.at_value).1)
 
 pub put_beside-below-requires-in-Value-show : goal.put_beside-below-requires-in-Value-show
 put_beside-below-requires-in-Value-show t c =
@@ -297,7 +302,7 @@ put_beside-below-requires-in-Value-show t c =
 pub put_beside-put-requires : goal.put_beside-put-requires
 put_beside-put-requires t c =
     let b = begun c.requires.ready_at c.requires.put_space_at c.requires.seen_at c.requires.at_value in
-    let f = put_facts b (beside_levels b) (omega arith) in
+    let l = beside_levels b in
     let g = got (rw c.below.ensures at c.show.ensures) c.show.auto.work c.in-Value.v c.in-Value.is in
     let again = shown_before (rw c.below.ensures at c.show.ensures).frame c.requires.put_space_at.below c.requires.put_space_at.bound
         (rw c.after-x2.ensures at (rw c.below-in-Value.ensures at c.show-in-Value.ensures)) in
@@ -313,7 +318,7 @@ put_beside-below_on-under-requires t c =
 pub put_beside-put-requires-in-Value-show : goal.put_beside-put-requires-in-Value-show
 put_beside-put-requires-in-Value-show t c =
     let b = begun c.requires.ready_at c.requires.put_space_at c.requires.seen_at c.requires.at_value in
-    let f = put_facts b (beside_levels b) (omega arith) in
+    let l = beside_levels b in
     let g = got (rw c.below.ensures at c.show.ensures) c.show.auto.work c.in-Value.v c.in-Value.is in
     let again = shown_before (rw c.below.ensures at c.show.ensures).frame c.requires.put_space_at.below c.requires.put_space_at.bound
         (rw c.after-x2.ensures at (rw c.below-in-Value.ensures at c.show-in-Value.ensures)) in
@@ -324,9 +329,7 @@ put_beside-put-requires-in-Value-show t c =
 
 pub put_beside-merge-requires-clause-len_in_bounds : goal.put_beside-merge-requires-clause-len_in_bounds
 put_beside-merge-requires-clause-len_in_bounds t c =
-    let b = begun c.requires.ready_at c.requires.put_space_at c.requires.seen_at c.requires.at_value in
-    let f = put_facts b (beside_levels b) (omega arith) in
-    let k = c.put-in-Value-show.auto.work ∙ (c.put.auto.work ∙ (c.show-in-Value.auto.work ∙ c.show.auto.work)) in
+    let l = beside_levels (begun c.requires.ready_at c.requires.put_space_at c.requires.seen_at c.requires.at_value) in
     omega arith
 
 pub put_beside-returns-in-Value-show : goal.put_beside-returns-in-Value-show
@@ -355,9 +358,7 @@ put_beside-returns-in_default t c =
 -- ## `put_each`: X has shown `g` of an item.
 
 pub put_each-loop-done-init : goal.put_each-loop-done-init
-put_each-loop-done-init t c =
-    let b = begun c.requires.ready_at c.requires.put_space_at c.requires.seen_at c.requires.at_value in
-    items_start b
+put_each-loop-done-init t c = items_start (begun c.requires.ready_at c.requires.put_space_at c.requires.seen_at c.requires.at_value)
 
 pub put_each-below_on-item-requires : goal.put_each-below_on-item-requires
 put_each-below_on-item-requires t c =
@@ -386,7 +387,7 @@ put_each-below_on-back-requires t c =
 pub put_each-put-requires : goal.put_each-put-requires
 put_each-put-requires t c =
     let b = begun c.requires.ready_at c.requires.put_space_at c.requires.seen_at c.requires.at_value in
-    let f = put_facts b (each_levels b) (omega arith) in
+    let l = each_levels b in
     let g = got (rw c.below_on-item.ensures at c.show.ensures) c.show.auto.work c.in-Value.v c.in-Value.is in
     rw (c.seeing-under.ensures, c.below_on-back.ensures)
     (omega arith, (ready_each c.requires.ready_at c.requires.at_value, item_asks b c.loop-done.invariant c.loop-done-test.true c.first_item-k.ensures g))
@@ -400,8 +401,8 @@ put_each-loop-done-preserved t c =
 
 pub put_each-returns : goal.put_each-returns
 put_each-returns t c =
-    let b = begun c.requires.ready_at c.requires.put_space_at c.requires.seen_at c.requires.at_value in
-    items_end b c.loop-done.invariant c.loop-done-test.false
+    items_end (begun c.requires.ready_at c.requires.put_space_at c.requires.seen_at c.requires.at_value)
+    c.loop-done.invariant c.loop-done-test.false
 
 -- ## `put_choose`: the test has said `said`.
 
@@ -427,7 +428,7 @@ put_choose-below-taken-requires t c =
 pub put_choose-put-requires : goal.put_choose-put-requires
 put_choose-put-requires t c =
     let b = begun c.requires.ready_at c.requires.put_space_at c.requires.seen_at c.requires.at_value in
-    let f = put_facts b (choose_levels b) (omega arith) in
+    let l = choose_levels b in
     let said = told (rw c.below.ensures at c.test.ensures) c.in-Says.is in
     rw c.below-taken.ensures
     (omega arith, rw c.chosen-branch.ensures
@@ -441,7 +442,7 @@ put_choose-below-asked-requires t c =
 pub put_choose-put_test-requires : goal.put_choose-put_test-requires
 put_choose-put_test-requires t c =
     let b = begun c.requires.ready_at c.requires.put_space_at c.requires.seen_at c.requires.at_value in
-    let f = put_facts b (choose_levels b) (omega arith) in
+    let l = choose_levels b in
     let said = told (rw c.below.ensures at c.test.ensures) c.in-Says.is in
     rw c.below-asked.ensures
     (omega arith, ((ready_choose c.requires.ready_at c.requires.at_value).0,
@@ -463,31 +464,27 @@ put_choose-returns-in_default t c =
 -- ## `put_bind`
 
 pub put_bind-below_bound-inner-requires-clause-le_levels : goal.put_bind-below_bound-inner-requires-clause-le_levels
-put_bind-below_bound-inner-requires-clause-le_levels t c =
-    let b = begun c.requires.ready_at c.requires.put_space_at c.requires.seen_at c.requires.at_value in
-    let f = put_facts b (bind_levels b) (omega arith) in
-    omega arith
+put_bind-below_bound-inner-requires-clause-le_levels t c = let h = here c.requires.ready_at in omega arith
 
 pub put_bind-below_bound-inner-requires-clause-count_bound : goal.put_bind-below_bound-inner-requires-clause-count_bound
 put_bind-below_bound-inner-requires-clause-count_bound t c =
     let b = begun c.requires.ready_at c.requires.put_space_at c.requires.seen_at c.requires.at_value in
-    let f = put_facts b (bind_levels b) (omega arith) in
-    let g = c.requires.put_space_at.low in
+    let l = bind_levels b in
     (slots_left c.requires.ready_at c.requires.at_value, omega arith, omega arith)
 
 pub put_bind-fill-requires : goal.put_bind-fill-requires
 put_bind-fill-requires t c =
     let b = begun c.requires.ready_at c.requires.put_space_at c.requires.seen_at c.requires.at_value in
-    let f = put_facts b (bind_levels b) (omega arith) in
+    let l = bind_levels b in
     let k = slots_left c.requires.ready_at c.requires.at_value in
-    let l = c.requires.put_space_at.marks_long in
     omega arith
 
 pub put_bind-put-requires : goal.put_bind-put-requires
 put_bind-put-requires t c =
     let b = begun c.requires.ready_at c.requires.put_space_at c.requires.seen_at c.requires.at_value in
-    let f = put_facts b (bind_levels b) (omega arith) in
-    let y = bind_byte c.args.prog.now c.args.entries.now c.args.at.entry (in_starts c.args.prog.now c.args.entries.now (here c.requires.ready_at)) c.slot_at-byte.result c.slot_at-byte.ensures c.requires.at_value in
+    let l = bind_levels b in
+    let i = in_starts c.args.prog.now c.args.entries.now (here c.requires.ready_at) in
+    let y = bind_byte c.args.prog.now c.args.entries.now c.args.at.entry i c.slot_at-byte.result c.slot_at-byte.ensures c.requires.at_value in
     rw c.below_bound-inner.ensures
     (omega arith, (ready_bind c.requires.ready_at c.requires.at_value c.requires.put_space_at.bound c.slot_at-byte.result c.args.at.start c.args.at.len y,
         bind_asks b y c.fill.ensures (omega arith)))
@@ -495,18 +492,16 @@ put_bind-put-requires t c =
 pub put_bind-bring-requires : goal.put_bind-bring-requires
 put_bind-bring-requires t c =
     let b = begun c.requires.ready_at c.requires.put_space_at c.requires.seen_at c.requires.at_value in
-    let f = put_facts b (bind_levels b) (omega arith) in
+    let l = bind_levels b in
     let k = slots_left c.requires.ready_at c.requires.at_value in
-    let l = c.requires.put_space_at.marks_long in
-    let w = c.put.auto.work in
-    let z = c.put.auto.marks ∙ c.fill.auto.work in
     omega arith
 
 pub put_bind-returns : goal.put_bind-returns
 put_bind-returns t c =
     let b = begun c.requires.ready_at c.requires.put_space_at c.requires.seen_at c.requires.at_value in
-    let f = put_facts b (bind_levels b) (omega arith) in
-    let y = bind_byte c.args.prog.now c.args.entries.now c.args.at.entry (in_starts c.args.prog.now c.args.entries.now (here c.requires.ready_at)) c.slot_at-byte.result c.slot_at-byte.ensures c.requires.at_value in
+    let l = bind_levels b in
+    let i = in_starts c.args.prog.now c.args.entries.now (here c.requires.ready_at) in
+    let y = bind_byte c.args.prog.now c.args.entries.now c.args.at.entry i c.slot_at-byte.result c.slot_at-byte.ensures c.requires.at_value in
     bind_back b y c.fill.ensures (omega arith) c.put.auto.work
     (c.put.auto.marks ∙ (c.fill.auto.work ∙ c.requires.put_space_at.marks_long)) (rw c.below_bound-inner.ensures at c.put.ensures) c.bring.ensures
 
@@ -527,7 +522,6 @@ put_test-merge-requires-clause-len_in_bounds t c =
     let b = begun_test c.requires.ready_test_at c.requires.test_space_at c.requires.asked_at
         (operation c.args.prog.now c.args.entries.now (here_test c.requires.ready_test_at) c.operation_at.ensures c.in-17.is) in
     let f = equals_facts b (omega arith) in
-    let l = c.fill.auto.work in
     omega arith
 
 pub put_test-overflow_add-at : goal.put_test-overflow_add-at
@@ -549,7 +543,8 @@ put_test-put-requires t c =
     let b = begun_test c.requires.ready_test_at c.requires.test_space_at c.requires.asked_at
         (operation c.args.prog.now c.args.entries.now (here_test c.requires.ready_test_at) c.operation_at.ensures c.in-17.is) in
     let f = equals_facts b (omega arith) in
-    rw (c.seeing-inner.ensures, c.below_on-under.ensures) (omega arith, (ready_equals c.requires.ready_test_at b.op, equals_asks b c.fill.ensures c.merge.ensures))
+    rw (c.seeing-inner.ensures, c.below_on-under.ensures)
+    (omega arith, (ready_equals c.requires.ready_test_at b.op, equals_asks b c.fill.ensures c.merge.ensures))
 
 pub put_test-returns-in-17 : goal.put_test-returns-in-17
 put_test-returns-in-17 t c =
@@ -558,4 +553,7 @@ put_test-returns-in-17 t c =
     equals_back b c.fill.ensures c.merge.ensures (rw (c.seeing-inner.ensures, c.below_on-under.ensures) at c.put.ensures)
 
 pub put_test-returns-in_default : goal.put_test-returns-in_default
-put_test-returns-in_default t c = plain_back (λ o. let q = operation c.args.prog.now c.args.entries.now (here_test c.requires.ready_test_at) c.operation_at.ensures refl in omega arith)
+put_test-returns-in_default t c =
+    plain_back λ o.
+    let q = operation c.args.prog.now c.args.entries.now (here_test c.requires.ready_test_at) c.operation_at.ensures refl in
+    omega arith

@@ -27,6 +27,7 @@ decreases-put_test l = 2 * l.at.levels
 
 abbrev pub decreases-put_within : goal.decreases-put_within
 decreases-put_within l = 2 * l.at.levels
+
 abbrev pub invariant-put_each-loop-done : goal.invariant-put_each-loop-done
 invariant-put_each-loop-done l =
     Going (entries_of l.prog l.entries) (lines_of l.master l.nodes) l.initial.work l.initial.marks l.at.slots l.at.entry l.at.start l.at.len l.at.view l.at.vlen l.at.top l.work l.marks l.done l.seen
