@@ -2,7 +2,7 @@
 use mathlib.Core.Path.{◌≡◌, refl, ap}
 use mathlib.Core.List.{List, [], ◌∷◌}
 use mathlib.Core.Logic.{◌⊎◌, inl, inr}
-use Prim.Native.Nat.{ℕ, suc, ◌+◌, ◌-◌, ◌*◌, ◌^◌, ◌/◌, ◌%◌, ◌≤◌, ◌<◌}
+use Prim.Native.Nat.{ℕ, ◌+◌, ◌-◌, ◌/◌, ◌%◌, ◌≤◌, ◌<◌}
 use native.Mathlib.Omega.{arith}
 use native.Mathlib.Decide.{dec_lt}
 use lib.ListN.{length, get_or, length-map}
@@ -13,7 +13,6 @@ use Rattle.lines.specs.Engine.Starts.{entry_at, entries_of}
 use Rattle.values.specs.Values.{program}
 use Rattle.values.specs.Engine.Words.{Made, origin_of, node_of, value_at}
 use Rattle.values.specs.Theorems.WordLaws.{value_none}
-use Rattle.runs.specs.declared.at.At.{At}
 use Rattle.runs.specs.declared.slots.SlotWords.{SlotWords}
 use Rattle.runs.specs.declared.stop.Run.{Run}
 use Rattle.runs.specs.declared.stop.Run.TheVariants as ran
@@ -22,82 +21,30 @@ use Rattle.runs.specs.Results.{gives}
 use Rattle.runs.specs.Programs.{contents, tagged, is_element}
 use Rattle.runs.specs.Reading.{no_entry}
 use Rattle.runs.specs.Showing.{value_in, show, test}
-use Rattle.runs.specs.Engine.Runs.{made_by, lookup_of, slots_at, Space, value_only, yes_only, said_of, ShownBy, TestedBy}
+use Rattle.runs.specs.Engine.Runs.{made_by, lookup_of, slots_at, value_only, yes_only, said_of, ShownBy, TestedBy}
 use Rattle.runs.specs.Engine.Leaves.{Leaves}
+use Rattle.runs.proofs.Lookups.{operation_of}
 use Rattle.runs.proofs.Trees.{Here, at_source, at_nothing, at_text, at_tag, at_slot, at_contents, at_tagged, at_element}
 use Rattle.runs.proofs.ShowRuns.{leaf}
 
 -- ## At the entry
 
--- a combinator's: something is ready below it
-pub record Facts (entries : List Entry) (ends w : List ℕ) (slots : SlotWords) (entry start len top levels t : ℕ) : Type 0 where
-  pub measure : 2 * levels ≡ t
-  pub space : Space w slots start len top levels
-  pub few : length entries ≤ 96
-  pub long : length ends ≡ length entries
-  pub inside : entry + 1 < length entries
-  pub two : 2 ≤ levels
-  pub fits : length w * 4 < 2 ^ 63
-
-abbrev pub FactsAt : List Entry → List ℕ → List ℕ → At → ℕ → Type 0
-FactsAt entries ends w at t = Facts entries ends w at.slots at.entry at.start at.len at.top at.levels t
-
-pub facts : {entries : List Entry} {ends w : List ℕ} {slots : SlotWords} {entry start len top levels t : ℕ}
-    → 2 * levels ≡ t → Space w slots start len top levels → length w * 4 < 2 ^ 63
-    → Here entries ends (entry + 1) (levels - 1) → Facts entries ends w slots entry start len top levels t
-facts m s f h = let l = h.some in record { measure = m; space = s; few = h.few; long = h.long; inside = h.inside; two = omega arith; fits = f }
-
 -- an entry has its line's start
 pub in_starts : (prog starts : List ℕ) {ends : List ℕ} {entry levels : ℕ} → Here (entries_of prog starts) ends entry levels → entry < length starts
 in_starts prog starts h = let l = length-map starts (entry_at prog) in let i = h.inside in omega arith
 
--- any entry
-pub record AtEntry (entries : List Entry) (ends starts w : List ℕ) (slots : SlotWords) (entry start len top levels t : ℕ) : Type 0 where
-  pub measure : 2 * levels + 1 ≡ t
-  pub space : Space w slots start len top levels
-  pub low : entry < 96
-  pub inside : entry < length starts
-  pub some : 1 ≤ levels
-  pub fits : length w * 4 < 2 ^ 63
+-- the operation that was read is the entry's
+pub operation_read : (prog starts : List ℕ) {ends : List ℕ} {entry levels : ℕ} → Here (entries_of prog starts) ends entry levels
+    → {r b : ℕ} → r ≡ (entry_at prog (get_or starts entry 0)).operation → r ≡ b → (get_or (entries_of prog starts) entry no_entry).operation ≡ b
+operation_read prog starts {ends} {entry} h {r} e q = operation_of prog starts entry (in_starts prog starts h) r e q
 
-abbrev pub AtEntryAt : List Entry → List ℕ → List ℕ → List ℕ → At → ℕ → Type 0
-AtEntryAt entries ends starts w at t = AtEntry entries ends starts w at.slots at.entry at.start at.len at.top at.levels t
-
-pub at_entry : (prog starts : List ℕ) {ends w : List ℕ} {slots : SlotWords} {entry start len top levels t : ℕ}
-    → 2 * levels + 1 ≡ t → Space w slots start len top levels → length w * 4 < 2 ^ 63 → Here (entries_of prog starts) ends entry levels
-    → AtEntry (entries_of prog starts) ends starts w slots entry start len top levels t
-at_entry prog starts m s f h =
-    let i = h.inside in
-    let n = h.few in
-    record { measure = m; space = s; low = omega arith; inside = in_starts prog starts h; some = h.some; fits = f }
-
--- the operations that the code tells one by one; it is left with 03, 04 and 0C
-abbrev pub Not : ℕ → ℕ → Type 0
-Not r k = r ≡ k → ⊥
-
-abbrev pub NoOther : ℕ → Type 0
-NoOther r = ((((((((Unit {0} × Not r 1) × Not r 2) × Not r 5) × Not r 6) × Not r 7) × Not r 8) × Not r 9) × Not r 10) × Not r 11
-
-past : (k r : ℕ) → k ≤ r → Not r k → suc k ≤ r
-past k r h n = omega arith
-
-pub only_made : {o r : ℕ} → o ≡ r → 1 ≤ r → r < 5 → NoOther r → (o ≡ 3) ⊎ (o ≡ 4)
-only_made {o} {r} e a b n = go (past 2 r (past 1 r a n.0.0.0.0.0.0.0.0.1) n.0.0.0.0.0.0.0.1) (dec_lt r 4)
+-- 03 and 04 share a function
+pub text_or_tag : {o r : ℕ} → o ≡ r → 3 ≤ r → r < 5 → (o ≡ 3) ⊎ (o ≡ 4)
+text_or_tag {o} {r} e h u = go (dec_lt r 4)
   where
-    go : 3 ≤ r → Dec (r < 4) → (o ≡ 3) ⊎ (o ≡ 4)
-    go h (yes l) = inl (omega arith)
-    go h (no l) = inr (omega arith)
-
-pub only_bind : {r : ℕ} → 1 ≤ r → r < 13 → (r < 1) ⊎ (5 ≤ r) → NoOther r → r ≡ 12
-only_bind {r} low high (inl h) n = absurd (omega arith)
-only_bind {r} low high (inr h) n =
-    let past_seven : 8 ≤ r = past 7 r (past 6 r (past 5 r h n.0.0.0.0.0.0.1) n.0.0.0.0.0.1) n.0.0.0.0.1 in
-    let past_ten : 11 ≤ r = past 10 r (past 9 r (past 8 r past_seven n.0.0.0.1) n.0.0.1) n.0.1 in
-    let l = past 11 r past_ten n.1 in
-    only_last r l high
-  where
-    only_last : (r : ℕ) → 12 ≤ r → r < 13 → r ≡ 12
-    only_last r l h = omega arith
+    go : Dec (r < 4) → (o ≡ 3) ⊎ (o ≡ 4)
+    go (yes l) = inl (omega arith)
+    go (no l) = inr (omega arith)
 
 -- ## The operations with nothing below
 

@@ -16,28 +16,28 @@ abbrev fresh : tie.Start → Line
 fresh s = let a = s.args in word_line (entries_of a.program.now a.entries.now) (lines_of a.master.now a.nodes.now) a.word
 
 -- from the comparison back to the entry
-abbrev entered : tie.After-has-text → tie.Start
+abbrev entered : tie.After-has_text → tie.Start
 entered p = p.before.before.before.before.before.before.before.before.before.before
 
-compared : (p : tie.After-has-text) → let s = entered p in
-    p.has-text.result ≡ same_text (node_at s.args.view.now s.args.v).text (fresh s).text
+compared : (p : tie.After-has_text) → let s = entered p in
+    p.has_text.result ≡ same_text (node_at s.args.view.now s.args.v).text (fresh s).text
 compared p =
     let s = entered p in
     let a = s.args in
-    let text = word_text (entries_of a.program.now a.entries.now) (lines_of a.master.now a.nodes.now) a.word (p.before.before.text-of-word.ensures a.master.now) in
-    p.has-text.ensures ∙ (ap₂ same_text text (text_at_place a.view.now a.v p.before.node-text.ensures) ∙ same_text_comm _ _)
+    let text = word_text (entries_of a.program.now a.entries.now) (lines_of a.master.now a.nodes.now) a.word (p.text_of_word-fresh.ensures a.master.now) in
+    p.has_text.ensures ∙ (ap₂ same_text text (text_at_place a.view.now a.v p.node_text.ensures) ∙ same_text_comm _ _)
 
-returns : tie.Need-returns
-returns c = c.before.mark-at.ensures ∙ sym (counted_written _ _ _ (λ e. absurd (c.if1.true (c.before.mark-at.ensures ∙ e))))
+returns : tie.Need-returns-then-mark-ne1
+returns c = c.mark_at-mark.ensures ∙ sym (counted_written _ _ _ (λ e. absurd (c.if-mark-ne1.true (c.mark_at-mark.ensures ∙ e))))
 
-returns-2 : tie.Need-returns-2
+returns-2 : tie.Need-returns-then-has_text
 returns-2 c =
     let p = c.before in
-    let unsaved = p.before.before.before in
-    sym (counted_saved _ _ _ (sym unsaved.before.mark-at.ensures ∙ unsaved.if1.false) (sym (compared p) ∙ c.if2.true))
+    let unsaved = p in
+    sym (counted_saved _ _ _ (sym unsaved.mark_at-mark.ensures ∙ unsaved.if-mark-ne1.false) (sym (compared p) ∙ c.if-has_text.true))
 
-returns-3 : tie.Need-returns-3
-returns-3 c = c.before.before.before.before.before.mark-at.ensures ∙ sym (counted_written _ _ _ (λ _. sym (compared c.before) ∙ c.if2.false))
+returns-3 : tie.Need-returns
+returns-3 c = c.mark_at-mark.ensures ∙ sym (counted_written _ _ _ (λ _. sym (compared c.before) ∙ c.if-has_text.false))
 
 pub mark_counted_spec : {M : Type 1} → statement M
 mark_counted_spec =

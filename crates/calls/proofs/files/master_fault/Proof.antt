@@ -7,15 +7,15 @@ use Rattle.calls.specs.Judging.{master_rule}
 use Rattle.calls.proofs.files.master_fault.Statement.{statement}
 use Rattle.calls.proofs.files.master_fault.Tie as tie
 
-returns : tie.Need-returns
+returns : tie.Need-returns-then-not-putting
 unfolding master_rule
-returns c = rw (not-true c.before.before.before.before.args.putting c.if1.true) c.before.bounds.ensures
+returns c = rw (not-true c.args.putting c.if-not-putting.true-raw) c.bounds-broken.ensures
 
-returns-2 : tie.Need-returns-2
+returns-2 : tie.Need-returns
 unfolding master_rule
 returns-2 c =
-    let putting = not-false c.before.before.before.before.before.before.args.putting c.before.before.if1.false in
-    rw putting (c.earlier-of.ensures ∙ ap₂ earlier c.before.before.before.bounds.ensures c.before.marks.ensures)
+    let putting = not-false c.args.putting c.if-not-putting.false-raw in
+    rw putting (c.earlier_of.ensures ∙ ap₂ earlier c.bounds-broken.ensures c.marks.ensures)
 
 pub master_fault_spec : {M : Type 1} → statement M
 master_fault_spec =

@@ -10,43 +10,40 @@ use Rattle.calls.proofs.Sources.{words_long, loading_goes_on}
 use Rattle.calls.proofs.run_program.load.Statement.{statement}
 use Rattle.calls.proofs.run_program.load.Tie as tie
 
-abbrev invariant-loop : tie.invariant-loop
-invariant-loop master nodes work₀ k₀ work k = Putting work₀ 0 (source_words 0 (lines_of master nodes)) (length nodes) work k
+abbrev invariant-loop-k : tie.invariant-loop-k
+invariant-loop-k master nodes work₀ k₀ work k = Putting work₀ 0 (source_words 0 (lines_of master nodes)) (length nodes) work k
 
-abbrev decreases-loop : tie.decreases-loop
-decreases-loop master nodes work₀ k₀ work k = length nodes - k
+abbrev decreases-loop-k : tie.decreases-loop-k
+decreases-loop-k master nodes work₀ k₀ work k = length nodes - k
 
-inside : (p : tie.In-loop invariant-loop decreases-loop) → let l = p.before.loop in (l.k < 128) × (l.k < length l.work)
+inside : (p : tie.In-loop-k invariant-loop-k decreases-loop-k) → let l = p.loop-k in (l.k < 128) × (l.k < length l.work)
 inside p =
-    let l = p.before in
-    let few = l.before.before.before.before.requires in
-    let long = l.loop.invariant.long in
+    let l = p in
+    let few = l.requires in
+    let long = l.loop-k.invariant.long in
     (omega arith, omega arith)
 
-loop_holds : tie.Need-loop-init invariant-loop decreases-loop
+loop_holds : tie.Need-loop-k-init invariant-loop-k decreases-loop-k
 loop_holds c =
-    let a = c.before.before.before.args in
+    let a = c.args in
     putting_starts a.work.now 0 _ _ (words_long a.master.now a.nodes.now) (omega arith)
 
-loop_again : tie.Need-loop-preserved invariant-loop decreases-loop
+loop_again : tie.Need-loop-k-preserved invariant-loop-k decreases-loop-k
 loop_again c =
     let t = c.before.before in
     let l = t.before in
-    let a = l.before.before.before.before.args in
-    loading_goes_on a.master.now a.nodes.now a.work.now (omega arith) l.loop.invariant t.loop-test.true c.depth-at.ensures
+    let a = l.args in
+    loading_goes_on a.master.now a.nodes.now a.work.now (omega arith) l.loop-k.invariant t.loop-k-test.true c.depth_at.ensures
 
-same_length : tie.Need-same-length invariant-loop decreases-loop
-same_length c = c.before.loop.invariant.long
+same_length : tie.Need-shape_of-work invariant-loop-k decreases-loop-k
+same_length c = c.loop-k.invariant.long
 
-returns : tie.Need-returns invariant-loop decreases-loop
+returns : tie.Need-returns invariant-loop-k decreases-loop-k
 returns c =
-    let l = c.before in
-    let a = l.before.before.before.before.args in
-    putting_ends a.work.now 0 _ _ (words_long a.master.now a.nodes.now) (omega arith) l.loop.invariant c.loop-test.false
+    let l = c in
+    let a = l.args in
+    putting_ends a.work.now 0 _ _ (words_long a.master.now a.nodes.now) (omega arith) l.loop-k.invariant c.loop-k-test.false
 
 pub load_spec : {M : Type 1} → statement M
 load_spec =
-    tie.close (tie.spec invariant-loop decreases-loop loop_holds (λ c. omega (arith, inside c)) (λ c. omega (arith, inside c.before)) (λ c κs. search rules)
-    (λ c. search rules) (λ c. omega (arith, inside c.before.before)) (λ c. omega (arith, inside c.before.before))
-    (λ c. omega (arith, inside c.before.before)) (λ c. omega (arith, inside c.before.before)) (λ c. omega (arith, inside c.before.before))
-    (λ c. omega (arith, inside c.before.before)) (λ c. omega (arith, inside c.before.before)) loop_again same_length returns)
+    tie.close (tie.spec invariant-loop-k decreases-loop-k loop_holds (λ c. search rules) (λ c. search rules) (λ c κs. search rules) (λ c. search rules) (λ c. search rules) (λ c. search rules) (λ c. search rules) (λ c. search rules) (λ c. search rules) (λ c. search rules) (λ c. search rules) loop_again same_length returns)

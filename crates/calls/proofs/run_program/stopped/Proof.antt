@@ -4,13 +4,13 @@ use Rattle.runs.specs.Results.{stop_number, stop_entry}
 use Rattle.calls.proofs.run_program.stopped.Statement.{statement}
 use Rattle.calls.proofs.run_program.stopped.Tie as tie
 
-returns : tie.Need-returns
+returns : tie.Need-returns-in-Source
 unfolding stop_number stop_entry
-returns c = rw c.before.before.stop.given.1 c.refuse.ensures
+returns c = rw c.in-Source.is c.refuse.ensures
 
-returns-2 : tie.Need-returns-2
+returns-2 : tie.Need-returns-in-Size
 unfolding stop_number stop_entry
-returns-2 c = rw c.before.before.stop2.given.1 c.refuse2.ensures
+returns-2 c = rw c.in-Size.is c.refuse-in-Size.ensures
 
 pub stopped_spec : {M : Type 1} → statement M
 stopped_spec =

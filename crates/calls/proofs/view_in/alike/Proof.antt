@@ -16,29 +16,29 @@ inside s =
     let room = s.requires.2.0 in
     (omega (arith, s.requires.0), omega (arith, s.requires.1))
 
-mul_if1 : tie.Need-overflow-mul-if1
+mul_if1 : tie.Need-offset_bounds-sums-j
 mul_if1 c = let h = inside c.before.before.before in search rules
 
-shared-slice-read-if1 : tie.Need-shared-slice-read-if1
+shared-slice-read-if1 : tie.Need-bounds-sums-j
 shared-slice-read-if1 c = (inside c.before.before.before.before).0
 
-mul_if1_2 : tie.Need-overflow-mul-if1-2
+mul_if1_2 : tie.Need-offset_bounds-sums-i
 mul_if1_2 c = let h = inside c.before.before.before.before in search rules
 
-shared-slice-read-if1-2 : tie.Need-shared-slice-read-if1-2
+shared-slice-read-if1-2 : tie.Need-bounds-sums-i
 shared-slice-read-if1-2 c = (inside c.before.before.before.before.before).1
 
-returns : tie.Need-returns
+returns : tie.Need-returns-then-sums-j
 returns c =
-    let s = c.before.before.before.before.before.before in
+    let s = c in
     let a = s.args in
-    sym (sums_differ a.view.now a.lines.now a.i s.requires.1 a.j s.requires.0 a.sums.now s.requires.2 c.if1.true)
+    sym (sums_differ a.view.now a.lines.now a.i s.requires.1 a.j s.requires.0 a.sums.now s.requires.2 c.if-sums-j.true)
 
-returns-2 : tie.Need-returns-2
+returns-2 : tie.Need-returns
 returns-2 c =
-    let s = c.before.before.before.before.before.before.before.before.before.before.before in
+    let s = c in
     let a = s.args in
-    c.same_text.ensures ∙ compared a.view.now a.lines.now a.i s.requires.1 a.j s.requires.0 c.before.before.before.node-text.ensures c.before.node-text2.ensures
+    c.same_text.ensures ∙ compared a.view.now a.lines.now a.i s.requires.1 a.j s.requires.0 c.node_text.ensures c.node_text-2.ensures
 
 pub alike_spec : {M : Type 1} → statement M
 alike_spec =

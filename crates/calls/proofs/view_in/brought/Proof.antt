@@ -19,32 +19,32 @@ fresh s = let a = s.args in word_line (entries_of a.program.now a.entries.now) (
 abbrev line : tie.Start → Line
 line s = counted_line (fresh s) (line_at (es s) s.args.i)
 
-abbrev entered : tie.After-mark-counted → tie.Start
+abbrev entered : tie.After-mark_counted-mark → tie.Start
 entered p = p.before.before.before.before.before.before.before.before.before
 
-mark : (p : tie.After-mark-counted) → p.mark-counted.result ≡ (line (entered p)).mark
-mark p = let s = entered p in mark_read s.args.view.now s.args.lines.now (fresh s) s.args.i s.pre.0 p.mark-counted.ensures
+mark : (p : tie.After-mark_counted-mark) → p.mark_counted-mark.result ≡ (line (entered p)).mark
+mark p = let s = entered p in mark_read s.args.view.now s.args.lines.now (fresh s) s.args.i s.requires.0 p.mark_counted-mark.ensures
 
-first-same-requires : tie.Need-first-same-requires
-first-same-requires c κs = let s = c.before.before.before.before.before.before.before.before.before.before in (s.requires.0, s.requires.2)
+first-same-requires : tie.Need-first_same-requires
+first-same-requires c κs = let s = c in (s.requires.0, s.requires.2)
 
-returns : tie.Need-returns
+returns : tie.Need-returns-then-mark-eq1
 returns c =
     let p = c.before.before in
     let s = entered p in
-    word_changed (es s) (line s) (sym (mark p) ∙ c.before.if1.true) c.first-same.ensures.0
+    word_changed (es s) (line s) (sym (mark p) ∙ c.if-mark-eq1.true) c.first_same.ensures.0
 
-returns-2 : tie.Need-returns-2
+returns-2 : tie.Need-returns-then-mark-eq2
 returns-2 c =
     let p = c.before.before in
     let s = entered p in
-    word_deleted (es s) (line s) (λ e. c.before.if1.false (mark p ∙ e)) (sym (mark p) ∙ c.if2.true)
+    word_deleted (es s) (line s) (λ e. c.if-mark-eq1.false (mark p ∙ e)) (sym (mark p) ∙ c.if-mark-eq2.true)
 
-returns-3 : tie.Need-returns-3
+returns-3 : tie.Need-returns
 returns-3 c =
     let p = c.before.before in
     let s = entered p in
-    word_untouched (es s) (line s) (λ e. c.before.if1.false (mark p ∙ e)) (λ e. c.if2.false (mark p ∙ e))
+    word_untouched (es s) (line s) (λ e. c.if-mark-eq1.false (mark p ∙ e)) (λ e. c.if-mark-eq2.false (mark p ∙ e))
 
 pub brought_spec : {M : Type 1} → statement M
 brought_spec =

@@ -1,40 +1,23 @@
--- Each operation's function leaves what the operation shows, and each call of the cycle is one level down or one step below its own level's run.
-use mathlib.Core.Path.{◌≡◌, refl, sym, ◌∙◌, ap₂}
-use mathlib.Core.List.{List}
-use mathlib.Core.Logic.{◌⊎◌, inl, inr}
-use Prim.Native.Nat.{ℕ, ◌+◌, ◌-◌, ◌≤◌, ◌<◌}
-use native.Mathlib.Decide.{dec_lt}
+-- Each operation's function leaves what the operation shows; what it runs is ready one level down, and has room there.
+use mathlib.Core.Path.{◌≡◌, refl, ◌∙◌, ap₂}
+use Prim.Native.Nat.{◌+◌, ◌≤◌, ◌<◌}
 use native.Mathlib.Omega.{arith}
 use lib.ListN.{get_or, length-set}
 use Rattle.lines.specs.Texts.{agree}
-use Rattle.lines.specs.Engine.Starts.{entry_at, entries_of, lines_of}
-use Rattle.runs.specs.Reading.{no_entry}
+use Rattle.lines.specs.Engine.Starts.{entries_of, lines_of}
 use Rattle.runs.specs.Engine.Runs.{made_by, lookup_of}
 use Rattle.runs.specs.Theorems.RunAnswers.{got, halted}
-use Rattle.runs.proofs.Lookups.{operation_of, slot_byte, bind_byte}
+use Rattle.runs.proofs.Lookups.{slot_byte, bind_byte}
 use Rattle.runs.proofs.ShowEach.{each_starts, each_done, each_stop, each_large, each_more}
-use Rattle.runs.proofs.ShowEntries.{in_starts, shows_source, shows_slot, shows_contents, shows_made, shows_nothing, tests_tag, tests_element}
+use Rattle.runs.proofs.ShowEntries.{in_starts, operation_read, text_or_tag, shows_source, shows_slot, shows_contents, shows_made, shows_nothing, tests_tag, tests_element}
 use Rattle.runs.proofs.ShowRuns.{then_first, then_second, then_done, beside_first, beside_second, beside_large, beside_done, bind_done, choose_stop, choose_done}
 use Rattle.runs.proofs.ShowSources.{element_words}
 use Rattle.runs.proofs.ShowTests.{equals_none, equals_stop, equals_other, equals_done}
 use Rattle.runs.proofs.ShowWithin.{within_none, within_stop, within_over, within_deep, within_done}
 use Rattle.runs.proofs.SlotLaws.{bound_higher, more_bound}
-use Rattle.runs.proofs.Trees.{Here, here, here_test, operation_here, test_here, slot_bound, slots_left, ready_within, ready_then, ready_beside, ready_each, ready_choose, ready_branch, ready_bind, ready_equals}
+use Rattle.runs.proofs.Trees.{here, here_test, operation_here, test_here, slot_bound, slots_left, ready_within, ready_then, ready_beside, ready_each, ready_choose, ready_branch, ready_bind, ready_equals}
 use Rattle.runs.proofs.show.+showing.Goals as goal
 use Rattle.runs.proofs.show.+showing.Goals.{show-in_default-operation-via-then-operation-lt1-2, show-in_default-operation-via-else-operation-lt1-2+else-operation-lt5}
-
--- the operation that was read is the entry's
-operation : (prog starts : List ℕ) {ends : List ℕ} {entry levels : ℕ} → Here (entries_of prog starts) ends entry levels
-    → {r b : ℕ} → r ≡ (entry_at prog (get_or starts entry 0)).operation → r ≡ b → (get_or (entries_of prog starts) entry no_entry).operation ≡ b
-operation prog starts {ends} {entry} h {r} e q = operation_of prog starts entry (in_starts prog starts h) r e q
-
--- 03 and 04 share a function
-text_or_tag : {o r : ℕ} → o ≡ r → 3 ≤ r → r < 5 → (o ≡ 3) ⊎ (o ≡ 4)
-text_or_tag {o} {r} e h u = go (dec_lt r 4)
-  where
-    go : Dec (r < 4) → (o ≡ 3) ⊎ (o ≡ 4)
-    go (yes l) = inl (omega arith)
-    go (no l) = inr (omega arith)
 
 -- ## show
 
@@ -53,7 +36,7 @@ show-show_slot-requires-clause-top_in_bounds t c = let h = here c.requires.ready
 pub show-show_slot-requires-clause-count_value : goal.show-show_slot-requires-clause-count_value
 show-show_slot-requires-clause-count_value t c =
     let h = here c.requires.ready_at in
-    let o = operation c.args.prog.now c.args.entries.now h c.operation_at-operation.ensures c.in-5.is in
+    let o = operation_read c.args.prog.now c.args.entries.now h c.operation_at-operation.ensures c.in-5.is in
     rw (slot_byte c.args.prog.now c.args.entries.now c.args.at.entry (in_starts c.args.prog.now c.args.entries.now h) c.slot_at.result c.slot_at.ensures o)
     (slot_bound c.requires.ready_at o)
 
@@ -62,27 +45,27 @@ show-show_contents-requires t c = let h = here c.requires.ready_at in (omega ari
 
 pub show-show_within-requires : goal.show-show_within-requires
 show-show_within-requires t c =
-    let o = operation c.args.prog.now c.args.entries.now (here c.requires.ready_at) c.operation_at-operation.ensures c.in-7.is in
+    let o = operation_read c.args.prog.now c.args.entries.now (here c.requires.ready_at) c.operation_at-operation.ensures c.in-7.is in
     (omega arith, (c.requires.ready_at, (c.requires.space_at, o)))
 
 pub show-show_and_then-requires : goal.show-show_and_then-requires
 show-show_and_then-requires t c =
-    let o = operation c.args.prog.now c.args.entries.now (here c.requires.ready_at) c.operation_at-operation.ensures c.in-8.is in
+    let o = operation_read c.args.prog.now c.args.entries.now (here c.requires.ready_at) c.operation_at-operation.ensures c.in-8.is in
     (omega arith, (c.requires.ready_at, (c.requires.space_at, o)))
 
 pub show-show_beside-requires : goal.show-show_beside-requires
 show-show_beside-requires t c =
-    let o = operation c.args.prog.now c.args.entries.now (here c.requires.ready_at) c.operation_at-operation.ensures c.in-9.is in
+    let o = operation_read c.args.prog.now c.args.entries.now (here c.requires.ready_at) c.operation_at-operation.ensures c.in-9.is in
     (omega arith, (c.requires.ready_at, (c.requires.space_at, o)))
 
 pub show-show_each-requires : goal.show-show_each-requires
 show-show_each-requires t c =
-    let o = operation c.args.prog.now c.args.entries.now (here c.requires.ready_at) c.operation_at-operation.ensures c.in-10.is in
+    let o = operation_read c.args.prog.now c.args.entries.now (here c.requires.ready_at) c.operation_at-operation.ensures c.in-10.is in
     (omega arith, (c.requires.ready_at, (c.requires.space_at, o)))
 
 pub show-show_choose-requires : goal.show-show_choose-requires
 show-show_choose-requires t c =
-    let o = operation c.args.prog.now c.args.entries.now (here c.requires.ready_at) c.operation_at-operation.ensures c.in-11.is in
+    let o = operation_read c.args.prog.now c.args.entries.now (here c.requires.ready_at) c.operation_at-operation.ensures c.in-11.is in
     (omega arith, (c.requires.ready_at, (c.requires.space_at, o)))
 
 pub show-show_made-requires : goal.show-show_made-requires
@@ -93,29 +76,29 @@ show-show_bind-requires t c =
     let l : c.operation_at-operation.result ≡ 12 =
         elim c.in_default-operation.branch
         [ show-in_default-operation-via-then-operation-lt1-2 w ↦ omega arith | show-in_default-operation-via-else-operation-lt1-2+else-operation-lt5 w ↦ omega arith ] in
-    let o = operation c.args.prog.now c.args.entries.now (here c.requires.ready_at) c.operation_at-operation.ensures l in
+    let o = operation_read c.args.prog.now c.args.entries.now (here c.requires.ready_at) c.operation_at-operation.ensures l in
     (omega arith, (c.requires.ready_at, (c.requires.space_at, o)))
 
 pub show-returns-in-1 : goal.show-returns-in-1
 show-returns-in-1 t c =
-    shows_source (operation c.args.prog.now c.args.entries.now (here c.requires.ready_at) c.operation_at-operation.ensures c.in-1.is)
+    shows_source (operation_read c.args.prog.now c.args.entries.now (here c.requires.ready_at) c.operation_at-operation.ensures c.in-1.is)
     (c.show_source.ensures (made_by (entries_of c.args.prog.now c.args.entries.now)))
 
 pub show-returns-in-2 : goal.show-returns-in-2
 show-returns-in-2 t c =
-    shows_nothing (operation c.args.prog.now c.args.entries.now (here c.requires.ready_at) c.operation_at-operation.ensures c.in-2.is)
+    shows_nothing (operation_read c.args.prog.now c.args.entries.now (here c.requires.ready_at) c.operation_at-operation.ensures c.in-2.is)
 
 pub show-returns-in-5 : goal.show-returns-in-5
 show-returns-in-5 t c =
     let h = here c.requires.ready_at in
-    let o = operation c.args.prog.now c.args.entries.now h c.operation_at-operation.ensures c.in-5.is in
+    let o = operation_read c.args.prog.now c.args.entries.now h c.operation_at-operation.ensures c.in-5.is in
     shows_slot o
     (slot_byte c.args.prog.now c.args.entries.now c.args.at.entry (in_starts c.args.prog.now c.args.entries.now h) c.slot_at.result c.slot_at.ensures o)
     (c.show_slot.ensures (made_by (entries_of c.args.prog.now c.args.entries.now)))
 
 pub show-returns-in-6 : goal.show-returns-in-6
 show-returns-in-6 t c =
-    shows_contents (operation c.args.prog.now c.args.entries.now (here c.requires.ready_at) c.operation_at-operation.ensures c.in-6.is)
+    shows_contents (operation_read c.args.prog.now c.args.entries.now (here c.requires.ready_at) c.operation_at-operation.ensures c.in-6.is)
     c.show_contents.ensures
 
 pub show-returns-in-3-to-4 : goal.show-returns-in-3-to-4
@@ -123,7 +106,7 @@ show-returns-in-3-to-4 t c =
     let h = here c.requires.ready_at in
     let l : 3 ≤ c.operation_at-operation.result = omega arith in
     let u : c.operation_at-operation.result < 5 = omega arith in
-    shows_made (omega arith) (text_or_tag (operation c.args.prog.now c.args.entries.now h c.operation_at-operation.ensures refl) l u)
+    shows_made (omega arith) (text_or_tag (operation_read c.args.prog.now c.args.entries.now h c.operation_at-operation.ensures refl) l u)
     (c.show_made.ensures (made_by (entries_of c.args.prog.now c.args.entries.now)))
 
 -- an entry that is ready has an operation
@@ -131,14 +114,14 @@ pub show-returns-in_default : goal.show-returns-in_default
 show-returns-in_default t c =
     let r = c.requires.ready_at in
     let o = operation_here (entries_of c.args.prog.now c.args.entries.now) r.tree c.args.at.entry r.behind r.placed.stands in
-    let e = operation c.args.prog.now c.args.entries.now (here r) c.operation_at-operation.ensures refl in
+    let e = operation_read c.args.prog.now c.args.entries.now (here r) c.operation_at-operation.ensures refl in
     absurd (omega arith)
 
 pub show-returns-in_default-2 : goal.show-returns-in_default-2
 show-returns-in_default-2 t c =
     let r = c.requires.ready_at in
     let o = operation_here (entries_of c.args.prog.now c.args.entries.now) r.tree c.args.at.entry r.behind r.placed.stands in
-    let e = operation c.args.prog.now c.args.entries.now (here r) c.operation_at-operation.ensures refl in
+    let e = operation_read c.args.prog.now c.args.entries.now (here r) c.operation_at-operation.ensures refl in
     absurd (omega arith)
 
 -- ## show_and_then
@@ -425,19 +408,19 @@ pub show_within-returns-then-not-one_element : goal.show_within-returns-then-not
 show_within-returns-then-not-one_element t c =
     within_none (entries_of c.args.prog.now c.args.entries.now) (lines_of c.args.master.now c.args.nodes.now)
     c.args.work.now c.args.at.slots c.args.at.entry c.args.at.start c.args.at.len c.args.at.top
-    c.requires.at_value (sym c.if-not-one_element.ensures)
+    c.requires.at_value (rw (← c.if-not-one_element.ensures))
 
 pub show_within-overflow_sub-rest : goal.show_within-overflow_sub-rest
 show_within-overflow_sub-rest t c =
     let h = here (ready_within c.requires.ready_at c.requires.at_value) in
     element_words (made_by (entries_of c.args.prog.now c.args.entries.now)) c.args.work.now c.args.at.start c.args.at.len (omega arith)
-    (lookup_of (lines_of c.args.master.now c.args.nodes.now)) (sym c.if-not-one_element.ensures)
+    (lookup_of (lines_of c.args.master.now c.args.nodes.now)) (rw (← c.if-not-one_element.ensures))
 
 pub show_within-lower-requires-clause-len_in_bounds : goal.show_within-lower-requires-clause-len_in_bounds
 show_within-lower-requires-clause-len_in_bounds t c =
     let h = here (ready_within c.requires.ready_at c.requires.at_value) in
     let s = element_words (made_by (entries_of c.args.prog.now c.args.entries.now)) c.args.work.now c.args.at.start c.args.at.len (omega arith)
-        (lookup_of (lines_of c.args.master.now c.args.nodes.now)) (sym c.if-not-one_element.ensures) in
+        (lookup_of (lines_of c.args.master.now c.args.nodes.now)) (rw (← c.if-not-one_element.ensures)) in
     (omega arith, omega arith)
 
 pub show_within-below_on-inner-requires : goal.show_within-below_on-inner-requires
@@ -467,7 +450,7 @@ show_within-returns-then-len-gt-MOST_NODES t c =
     let x = got (rw c.below_on-inner.ensures at c.show.ensures) c.show.auto.work c.in-Value.v c.in-Value.is in
     within_over (entries_of c.args.prog.now c.args.entries.now) (lines_of c.args.master.now c.args.nodes.now)
     c.args.work.now c.args.at.slots c.args.at.entry c.args.at.start c.args.at.len c.args.at.top
-    c.requires.at_value (sym c.if-not-one_element.ensures) c.requires.space_at.bound c.requires.space_at.below c.requires.space_at.short (omega arith)
+    c.requires.at_value (rw (← c.if-not-one_element.ensures)) c.requires.space_at.bound c.requires.space_at.below c.requires.space_at.short (omega arith)
     c.lower.ensures x c.if-len-gt-MOST_NODES.true
 
 pub show_within-bounds-work-start : goal.show_within-bounds-work-start
@@ -494,7 +477,7 @@ show_within-returns-then-not-is_shallow t c =
     let x = got (rw c.below_on-inner.ensures at c.show.ensures) c.show.auto.work c.in-Value.v c.in-Value.is in
     within_deep (entries_of c.args.prog.now c.args.entries.now) (lines_of c.args.master.now c.args.nodes.now)
     c.args.work.now c.args.at.slots c.args.at.entry c.args.at.start c.args.at.len c.args.at.top
-    c.requires.at_value (sym c.if-not-one_element.ensures) c.requires.space_at.bound c.requires.space_at.below c.requires.space_at.short (omega arith)
+    c.requires.at_value (rw (← c.if-not-one_element.ensures)) c.requires.space_at.bound c.requires.space_at.below c.requires.space_at.short (omega arith)
     c.lower.ensures x c.if-len-gt-MOST_NODES.false refl c.raise.ensures
     (c.if-not-is_shallow.ensures (made_by (entries_of c.args.prog.now c.args.entries.now)))
 
@@ -503,7 +486,7 @@ show_within-returns-in-Stop t c =
     let h = here (ready_within c.requires.ready_at c.requires.at_value) in
     within_stop (entries_of c.args.prog.now c.args.entries.now) (lines_of c.args.master.now c.args.nodes.now)
     c.args.work.now c.args.at.slots c.args.at.entry c.args.at.start c.args.at.len c.args.at.top
-    c.requires.at_value (sym c.if-not-one_element.ensures) c.requires.space_at.bound c.requires.space_at.below c.requires.space_at.short (omega arith)
+    c.requires.at_value (rw (← c.if-not-one_element.ensures)) c.requires.space_at.bound c.requires.space_at.below c.requires.space_at.short (omega arith)
     c.lower.ensures (halted (rw c.below_on-inner.ensures at c.show.ensures) c.in-Stop.s c.in-Stop.is)
 
 pub show_within-returns-else-not-is_shallow : goal.show_within-returns-else-not-is_shallow
@@ -512,7 +495,7 @@ show_within-returns-else-not-is_shallow t c =
     let x = got (rw c.below_on-inner.ensures at c.show.ensures) c.show.auto.work c.in-Value.v c.in-Value.is in
     within_done (entries_of c.args.prog.now c.args.entries.now) (lines_of c.args.master.now c.args.nodes.now)
     c.args.work.now c.args.at.slots c.args.at.entry c.args.at.start c.args.at.len c.args.at.top
-    c.requires.at_value (sym c.if-not-one_element.ensures) c.requires.space_at.bound c.requires.space_at.below c.requires.space_at.short (omega arith)
+    c.requires.at_value (rw (← c.if-not-one_element.ensures)) c.requires.space_at.bound c.requires.space_at.below c.requires.space_at.short (omega arith)
     c.lower.ensures x c.if-len-gt-MOST_NODES.false refl c.raise.ensures
     (c.if-not-is_shallow.ensures (made_by (entries_of c.args.prog.now c.args.entries.now)))
 
@@ -523,22 +506,22 @@ test-bounds-entries-at t c = in_starts c.args.prog.now c.args.entries.now (here_
 
 pub test-test_equals-requires : goal.test-test_equals-requires
 test-test_equals-requires t c =
-    let o = operation c.args.prog.now c.args.entries.now (here_test c.requires.ready_test_at) c.operation_at-operation.ensures c.in-17.is in
+    let o = operation_read c.args.prog.now c.args.entries.now (here_test c.requires.ready_test_at) c.operation_at-operation.ensures c.in-17.is in
     (omega arith, (c.requires.ready_test_at, (c.requires.space_at, o)))
 
 pub test-test_tagged-requires-clause-at_value : goal.test-test_tagged-requires-clause-at_value
 test-test_tagged-requires-clause-at_value t c =
-    operation c.args.prog.now c.args.entries.now (here_test c.requires.ready_test_at) c.operation_at-operation.ensures c.in-18.is
+    operation_read c.args.prog.now c.args.entries.now (here_test c.requires.ready_test_at) c.operation_at-operation.ensures c.in-18.is
 
 pub test-returns-in-18 : goal.test-returns-in-18
 test-returns-in-18 t c =
-    tests_tag (operation c.args.prog.now c.args.entries.now (here_test c.requires.ready_test_at) c.operation_at-operation.ensures c.in-18.is)
+    tests_tag (operation_read c.args.prog.now c.args.entries.now (here_test c.requires.ready_test_at) c.operation_at-operation.ensures c.in-18.is)
     c.test_tagged.ensures
 
 pub test-returns-in_default-operation : goal.test-returns-in_default-operation
 test-returns-in_default-operation t c =
     let l : c.operation_at-operation.result ≡ 0x13 = omega arith in
-    tests_element (operation c.args.prog.now c.args.entries.now (here_test c.requires.ready_test_at) c.operation_at-operation.ensures l)
+    tests_element (operation_read c.args.prog.now c.args.entries.now (here_test c.requires.ready_test_at) c.operation_at-operation.ensures l)
     c.test_element.ensures
 
 -- an entry that is ready has an operation
@@ -546,14 +529,14 @@ pub test-returns-in_default : goal.test-returns-in_default
 test-returns-in_default t c =
     let r = c.requires.ready_test_at in
     let o = test_here (entries_of c.args.prog.now c.args.entries.now) r.tree c.args.at.entry r.behind r.placed.stands in
-    let e = operation c.args.prog.now c.args.entries.now (here_test r) c.operation_at-operation.ensures refl in
+    let e = operation_read c.args.prog.now c.args.entries.now (here_test r) c.operation_at-operation.ensures refl in
     absurd (omega arith)
 
 pub test-returns-in_default-2 : goal.test-returns-in_default-2
 test-returns-in_default-2 t c =
     let r = c.requires.ready_test_at in
     let o = test_here (entries_of c.args.prog.now c.args.entries.now) r.tree c.args.at.entry r.behind r.placed.stands in
-    let e = operation c.args.prog.now c.args.entries.now (here_test r) c.operation_at-operation.ensures refl in
+    let e = operation_read c.args.prog.now c.args.entries.now (here_test r) c.operation_at-operation.ensures refl in
     absurd (omega arith)
 
 -- ## test_equals
@@ -562,7 +545,7 @@ pub test_equals-returns-then-not-one_text : goal.test_equals-returns-then-not-on
 test_equals-returns-then-not-one_text t c =
     equals_none (entries_of c.args.prog.now c.args.entries.now) (lines_of c.args.master.now c.args.nodes.now)
     c.args.work.now c.args.at.slots c.args.at.entry c.args.at.start c.args.at.len c.args.at.top
-    c.requires.at_value (sym c.if-not-one_text.ensures)
+    c.requires.at_value (rw (← c.if-not-one_text.ensures))
 
 pub test_equals-below_on-inner-requires : goal.test_equals-below_on-inner-requires
 test_equals-below_on-inner-requires t c = let h = here (ready_equals c.requires.ready_test_at c.requires.at_value) in omega arith
@@ -588,7 +571,7 @@ test_equals-returns-then-not-one_text-2 t c =
     let x = got (rw c.below_on-inner.ensures at c.show.ensures) c.show.auto.work c.in-Value.v c.in-Value.is in
     equals_other (entries_of c.args.prog.now c.args.entries.now) (lines_of c.args.master.now c.args.nodes.now)
     c.args.work.now c.args.at.slots c.args.at.entry c.args.at.start c.args.at.len c.args.at.top
-    c.requires.at_value (sym c.if-not-one_text.ensures) c.requires.space_at.below (omega arith) x (sym c.if-not-one_text-2.ensures)
+    c.requires.at_value (rw (← c.if-not-one_text.ensures)) c.requires.space_at.below (omega arith) x (rw (← c.if-not-one_text-2.ensures))
 
 pub test_equals-bounds-work-start : goal.test_equals-bounds-work-start
 test_equals-bounds-work-start t c = let h = here (ready_equals c.requires.ready_test_at c.requires.at_value) in omega arith
@@ -601,7 +584,7 @@ test_equals-returns-in-Stop t c =
     let h = here (ready_equals c.requires.ready_test_at c.requires.at_value) in
     equals_stop (entries_of c.args.prog.now c.args.entries.now) (lines_of c.args.master.now c.args.nodes.now)
     c.args.work.now c.args.at.slots c.args.at.entry c.args.at.start c.args.at.len c.args.at.top
-    c.requires.at_value (sym c.if-not-one_text.ensures) c.requires.space_at.below (omega arith)
+    c.requires.at_value (rw (← c.if-not-one_text.ensures)) c.requires.space_at.below (omega arith)
     (halted (rw c.below_on-inner.ensures at c.show.ensures) c.in-Stop.s c.in-Stop.is)
 
 pub test_equals-returns-else-not-one_text-2 : goal.test_equals-returns-else-not-one_text-2
@@ -610,5 +593,5 @@ test_equals-returns-else-not-one_text-2 t c =
     let x = got (rw c.below_on-inner.ensures at c.show.ensures) c.show.auto.work c.in-Value.v c.in-Value.is in
     equals_done (entries_of c.args.prog.now c.args.entries.now) (lines_of c.args.master.now c.args.nodes.now)
     c.args.work.now c.args.at.slots c.args.at.entry c.args.at.start c.args.at.len c.args.at.top
-    c.requires.at_value (sym c.if-not-one_text.ensures) c.requires.space_at.below (omega arith) x (sym c.if-not-one_text-2.ensures) _
+    c.requires.at_value (rw (← c.if-not-one_text.ensures)) c.requires.space_at.below (omega arith) x (rw (← c.if-not-one_text-2.ensures)) _
     (c.agree.ensures ∙ ap₂ agree (c.text_of_word-source.ensures c.args.master.now) (c.text_of_word-other.ensures c.args.master.now))

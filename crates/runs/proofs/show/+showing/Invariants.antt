@@ -31,6 +31,7 @@ decreases-test l = 2 * l.at.levels + 1
 abbrev pub decreases-test_equals : goal.decreases-test_equals
 decreases-test_equals l = 2 * l.at.levels
 
+-- what the items before `done` gave stands at `top`
 abbrev pub invariant-show_each-loop-done : goal.invariant-show_each-loop-done
 invariant-show_each-loop-done l =
     Going (entries_of l.prog l.entries) (lines_of l.master l.nodes) l.initial.work l.at.slots l.at.entry l.at.start l.at.len l.at.top l.work l.done l.n
