@@ -12,8 +12,7 @@ use Rattle.calls.proofs.sweep.judged_sweep.Goals as goal
 pub write_swept-requires : goal.write_swept-requires
 write_swept-requires c =
     let sound : MasterGoes false c.args.master.now c.judge_master-judged.new.nodes c.in-Goes.n = master_goes false _ _ _ c.judge_master-judged.ensures _ c.in-Goes.is in
-    let s = c in
-    lines_room sound s.args.out.now s.requires.0
+    lines_room sound c.args.out.now c.requires.0
 
 pub done-requires : goal.done-requires
 done-requires c =
@@ -24,10 +23,10 @@ done-requires c =
 pub returns-in-Refused : goal.returns-in-Refused
 returns-in-Refused c =
     let a = c.args in
-    refused_sweeps _ a.out.now a.numbers-1.now _ (master_refused false _ _ _ c.judge_master-judged.ensures _ c.in-Refused.is)
+    refused_sweeps _ a.out.now a.numbers.now _ (master_refused false _ _ _ c.judge_master-judged.ensures _ c.in-Refused.is)
 
 pub returns-in-Goes : goal.returns-in-Goes
 returns-in-Goes c =
     let sound : MasterGoes false c.args.master.now c.judge_master-judged.new.nodes c.in-Goes.n = master_goes false _ _ _ c.judge_master-judged.ensures _ c.in-Goes.is in
     let a = c.args in
-    written_sweeps sound a.out.now a.numbers-1.now _ _ _ c.write_swept.ensures c.write_numbers.ensures _ c.done.ensures
+    written_sweeps sound a.out.now a.numbers.now _ _ _ c.write_swept.ensures c.write_numbers.ensures _ c.done.ensures

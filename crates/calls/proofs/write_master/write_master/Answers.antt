@@ -10,23 +10,20 @@ use Rattle.calls.proofs.write_master.write_master.Goals as goal
 
 pub loop-k-init : goal.loop-k-init
 loop-k-init c =
-    let fits : let a = c.args in
-    Fitting (handed_lines (lines_of a.master.now a.nodes.now) (lines_of a.view.now a.lines.now) a.work.now) a.out.now (length a.nodes.now) = master_fits c.args.master.now c.args.nodes.now c.requires in
+    let fits = master_fits c.args.master.now c.args.nodes.now c.requires in
     writing_starts fits
 
 pub write_handed-pos-requires : goal.write_handed-pos-requires
 write_handed-pos-requires c =
-    let fits : let a = c.args in
-    Fitting (handed_lines (lines_of a.master.now a.nodes.now) (lines_of a.view.now a.lines.now) a.work.now) a.out.now (length a.nodes.now) = master_fits c.args.master.now c.args.nodes.now c.requires in
+    let fits = master_fits c.args.master.now c.args.nodes.now c.requires in
     let h = c.loop-k-test.true in
     writing_room fits c.loop-k.invariant h (master_at c.args.master.now c.args.nodes.now c.requires c.loop-k.k h)
 
 pub loop-k-preserved : goal.loop-k-preserved
 loop-k-preserved c =
-    let fits : let a = c.args in
-    Fitting (handed_lines (lines_of a.master.now a.nodes.now) (lines_of a.view.now a.lines.now) a.work.now) a.out.now (length a.nodes.now) = master_fits c.args.master.now c.args.nodes.now c.requires in
+    let fits = master_fits c.args.master.now c.args.nodes.now c.requires in
     let h = c.loop-k-test.true in
     writing_goes_on fits c.loop-k.invariant h (master_at c.args.master.now c.args.nodes.now c.requires c.loop-k.k h) c.write_handed-pos.ensures
 
 pub returns : goal.returns
-returns c = writing_ends (fits c) c.loop-k.invariant c.loop-k-test.false
+returns c = writing_ends (master_fits c.args.master.now c.args.nodes.now c.requires) c.loop-k.invariant c.loop-k-test.false
