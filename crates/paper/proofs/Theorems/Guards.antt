@@ -16,9 +16,9 @@ use Rattle.paper.specs.Operators.{split, in_two, Forward, Backward, iter, guard}
 use Rattle.paper.specs.Strict.{strict_guard}
 use Rattle.paper.specs.Semantics.{lengths, branch, taken, judged_backward, forward, asks, backward, holds}
 use Rattle.paper.specs.Theorems.Trees.{nil, txt, paint}
-use Rattle.paper.specs.Theorems.Places.{no_marks}
-use Rattle.paper.specs.Theorems.Brushes.{Permit, FineText, brush}
-use Rattle.paper.specs.Theorems.Ends.{Watched, Guarded, passes, stopped, Guarding}
+use Rattle.paper.proofs.Theorems.Places.{no_marks}
+use Rattle.paper.proofs.Theorems.Brushes.{Permit, FineText, brush}
+use Rattle.paper.proofs.Theorems.Ends.{Watched, Guarded, passes, stopped, Guarding}
 
 -- ## The strict guard
 
