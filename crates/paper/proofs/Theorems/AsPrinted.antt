@@ -2,7 +2,7 @@
 use Rattle.std.specs.Prelude.{◌≡◌, refl, Bool, true, false, cond, ◌&&◌, List, [], ◌∷◌, ℕ, suc, eqb, ltb}
 use Rattle.std.proofs.Common.{sym, ap, subst, ◌∙◌, arith}
 use Rattle.std.proofs.Math.Path.{subst⁻¹}
-use Rattle.lines.specs.Nodes.{Line, is_element as isElementKind, line_at}
+use Rattle.lines.specs.Nodes.{Line, is_element as isElementKind}
 use Rattle.lines.specs.Texts.{same_text}
 use Rattle.lines.specs.Theorems.TrimmedTexts.{Unpadded, agree_unpadded}
 use Rattle.runs.specs.Programs.{equals, Transformation, source, nothing, text, tag, slot, contents, within}
