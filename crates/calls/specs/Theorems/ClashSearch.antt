@@ -26,7 +26,7 @@ here_or_later test later = go (bool_cases (test 0)) later
     go : (test 0 ≡ true) ⊎ (test 0 ≡ false) → Found (λ i. test (suc i)) → Found test
     go (inl e) r = inl (0, e)
     go (inr e) (inl r) = inl (suc r.0, r.1)
-    go (inr e) (inr r) = inr (λ i. elim i [ zero ↦ e | suc j ↦ r j ])
+    go (inr e) (inr r) = inr (λ i. elim i as (λ k. test k ≡ false) [ zero ↦ e | suc j ↦ r j ])
 
 -- of the lines of two views at one place; behind the second's last line the test is false
 find : (test : Line → Line → Bool) → ((f : Line) → test f no_line ≡ false) → (fs es : List Line) → Found (λ i. test (line_at fs i) (line_at es i))

@@ -1,5 +1,5 @@
 -- Where the nodes of a shown value come from: from the source, from the slots, or from an 03 or 04 of the program.
-use Rattle.std.specs.Prelude.{◌≡◌, Bool, cond, ℕ, suc, eqb, get_or}
+use Rattle.std.specs.Prelude.{◌≡◌, Bool, cond, ℕ, suc, ◌+◌, eqb, length, get_or}
 use Rattle.std.proofs.Common.{sym, subst}
 use Rattle.std.proofs.Math.Bool.{true, false}
 use mathlib.Core.List.{List, [], ◌∷◌, ◌++◌, map}
@@ -85,7 +85,7 @@ module _ (P : Origin → Type 0) where
   unfolding in_turn
   turn_all e n [] G o h = shown_all [] [] tt o h
   turn_all e n (r ∷ rs) G o h =
-      on_turn (λ z. All z.value) e n r rs o h λ a b p t q. all_append a.value b.value (G.0 a p) (turn_all e _ rs G.1 b q)
+      on_turn (λ z. All z.value) e n r rs o h λ a b p t q. all_append a.value b.value (G.0 a p) (turn_all e (n + length a.value) rs G.1 b q)
 
   items_all : (f : Value → Result Stop Shown) → ((i : Value) → All i → GivesAll (f i)) → (is : List Value) → AllIn is → AllGive (map f is)
   items_all f F [] G = tt

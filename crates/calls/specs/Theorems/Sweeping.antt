@@ -5,7 +5,6 @@ use Rattle.std.proofs.Common.{sym, ap, subst, ◌∙◌, inl, inr, arith}
 use Rattle.std.proofs.Math.Bool.{true, false}
 use Rattle.lines.specs.declared.verdict.Verdict.TheVariants.{Fine}
 use Rattle.lines.specs.Nodes.{Line, nodes}
-use Rattle.lines.specs.Masters.{unmarked}
 use Rattle.lines.specs.Verdicts.{Reply, earlier}
 use Rattle.lines.specs.Writing.{file_of, put_at}
 use Rattle.lines.specs.Theorems.PutAt.{put_front, front_behind}

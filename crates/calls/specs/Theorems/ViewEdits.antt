@@ -42,7 +42,7 @@ same_from k (e ∷ es) (f ∷ fs) h = go (same_line e f) refl h (λ q. same_from
     go : (b : Bool) → same_line e f ≡ b → cond b (difference_from (suc k) es fs) (Fault k) ≡ Fine
         → (difference_from (suc k) es fs ≡ Fine → (length es ≡ length fs) × ((i : ℕ) → same_line (line_at es i) (line_at fs i) ≡ true))
         → (suc (length es) ≡ suc (length fs)) × ((i : ℕ) → same_line (line_at (e ∷ es) i) (line_at (f ∷ fs) i) ≡ true)
-    go true s q ih = let r = ih q in (ap suc r.0, λ i. elim i [ zero ↦ s | suc j ↦ r.1 j ])
+    go true s q ih = let r = ih q in (ap suc r.0, λ i. elim i as (λ n. same_line (line_at (e ∷ es) n) (line_at (f ∷ fs) n) ≡ true) [ zero ↦ s | suc j ↦ r.1 j ])
     go false s q ih = let z : ◌≡◌ {A = ℕ} 0 1 = cc in absurd (omega arith)
 
 from_same : (k : ℕ) (es fs : List Line) → length es ≡ length fs → ((i : ℕ) → same_line (line_at es i) (line_at fs i) ≡ true) → difference_from k es fs ≡ Fine

@@ -6,7 +6,7 @@ use mathlib.Core.List.{List, [], ◌∷◌, ◌++◌}
 use native.Mathlib.Omega.{arith}
 use Rattle.lines.specs.Entries.{Entry, slot_of, rows, row_of, text_of}
 use Rattle.lines.specs.declared.table.Shape.TheVariants.{Nothing, Text, Tag, Slot}
-use Rattle.runs.specs.Results.{gives, Result, stops, ◌>>=◌, ◌>>◌}
+use Rattle.runs.specs.Results.{gives, Result, stops, ◌>>=◌}
 use Rattle.runs.specs.Programs.{Transformation, source, Test, is_element}
 use Rattle.runs.specs.Reading.{Room, most_levels, below, Makes, leaf, one, two, choice, test_leaf, test_one, unknown, Row, operations, makes, Read, read}
 use Rattle.runs.specs.Reading.{Reader, transformation_from, test_from, transformation_at, test_at}

@@ -27,10 +27,10 @@ use Rattle.paper.specs.Theorems.Constructs.{xwithtag_forward, xiselement_forward
 use Rattle.paper.specs.Theorems.Judges.{Judged, Judges}
 use Rattle.paper.specs.Theorems.Trees.{on_elm, on_txt, Trees, nil, txt, at, flat, Scope, flat_slots, paint, paint_all}
 use Rattle.paper.specs.Theorems.Trees.{TextView, is_txt, not_txt, text_view, ItemView, is_item, not_item, item_view}
-use Rattle.paper.specs.Theorems.Brushes.{brush, Permit, FineText, Fine, FineAll, clash_stays, clash_joins}
-use Rattle.paper.specs.Theorems.Places.{no_marks}
-use Rattle.paper.specs.Theorems.Ends.{Watched, watched_left, watched_right, pairs, firsts_pairs, said, Ends, went, failed, Backs}
-use Rattle.paper.specs.Theorems.Ends.{TestBacks, PutsBack, TestPutsBack, Guarded, passes, stopped, Guarding, ends_at, ends_then}
+use Rattle.paper.proofs.Theorems.Brushes.{brush, Permit, FineText, Fine, FineAll, clash_stays, clash_joins}
+use Rattle.paper.proofs.Theorems.Places.{no_marks}
+use Rattle.paper.proofs.Theorems.Ends.{Watched, watched_left, watched_right, pairs, firsts_pairs, said, Ends, went, failed, Backs}
+use Rattle.paper.proofs.Theorems.Ends.{TestBacks, PutsBack, TestPutsBack, Guarded, passes, stopped, Guarding, ends_at, ends_then}
 
 module _ (look : Lookup) (permit : Permit) (watch : ℕ → Bool) where
   abbrev pt : Trees → Sequence

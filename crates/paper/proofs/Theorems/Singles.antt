@@ -25,9 +25,9 @@ use Rattle.paper.specs.Theorems.Constructs.{xid_forward, xvar_forward, xchild_fo
 use Rattle.paper.specs.Theorems.Constructs.{xchild_backward, xsetcnt_backward, xlet_backward}
 use Rattle.paper.specs.Theorems.Trees.{trees_in, value_trees, right_trees, find_trees, on_elm, Trees, nil, elm, at, flat}
 use Rattle.paper.specs.Theorems.Trees.{Scope, flat_slots, names, flat_raised, flat_lowered, from_origin, paint, paint_all, Right}
-use Rattle.paper.specs.Theorems.Brushes.{element_for, brush, Permit, FineElement, clash_joins, same_from_refl}
-use Rattle.paper.specs.Theorems.Places.{at_untouched, no_marks, element_still, fine_element_still, still}
-use Rattle.paper.specs.Theorems.Ends.{Watched, pairs, said, Ends, went, failed, Backs, PutsBack, ends_at, ends_then, Takes, takes, refuses, slot_takes_in}
+use Rattle.paper.proofs.Theorems.Brushes.{element_for, brush, Permit, FineElement, clash_joins, same_from_refl}
+use Rattle.paper.proofs.Theorems.Places.{at_untouched, no_marks, element_still, fine_element_still, still}
+use Rattle.paper.proofs.Theorems.Ends.{Watched, pairs, said, Ends, went, failed, Backs, PutsBack, ends_at, ends_then, Takes, takes, refuses, slot_takes_in}
 
 module _ (look : Lookup) (permit : Permit) (watch : ℕ → Bool) where
   abbrev pt : Trees → Sequence

@@ -25,10 +25,10 @@ use Rattle.calls.specs.Theorems.ViewEdits.{Alike, same_alike}
 use Rattle.paper.specs.Data.{ori, mod', del, ori_e, del_e}
 use Rattle.paper.specs.Lines.{updating_of, element_updating_of}
 use Rattle.paper.specs.Theorems.Trees.{Trees, nil, txt, elm, flat, Numbering, Right}
-use Rattle.paper.specs.Theorems.Brushes.{size, length_flat, text_with, state_with, element_with, is_plain, Permit, FineText, FineElement, Fine}
-use Rattle.paper.specs.Theorems.Places.{drop_behind}
-use Rattle.paper.specs.Theorems.Lines.{Beside, unlocked_state, Inked, InkedAll, shown_kind}
-use Rattle.paper.specs.Theorems.Masters.{AllNumbering}
+use Rattle.paper.proofs.Theorems.Brushes.{size, length_flat, text_with, state_with, element_with, is_plain, Permit, FineText, FineElement, Fine}
+use Rattle.paper.proofs.Theorems.Places.{drop_behind}
+use Rattle.paper.proofs.Theorems.Lines.{Beside, unlocked_state, Inked, InkedAll, shown_kind}
+use Rattle.paper.proofs.Theorems.Masters.{AllNumbering}
 
 -- ## Standings that the paper can write, along a value
 

@@ -13,7 +13,7 @@ use Rattle.runs.specs.Theorems.ViewLines.{shown_line_depth}
 use Rattle.paper.specs.Data.{Updating, ori, non, mod', del, ElementUpdating, From, Sequence, none, str, elt, ◌⧺◌}
 use Rattle.paper.specs.Lines.{updating_of, element_updating_of, from_of, item_of, items_at, sequence}
 use Rattle.paper.specs.Theorems.Trees.{seq_none, Trees, nil, txt, elm, flat, from_origin, mark_for, paint, Right, Numbering}
-use Rattle.paper.specs.Theorems.Brushes.{size, length_flat, text_for, state_for, element_for, brush}
+use Rattle.paper.proofs.Theorems.Brushes.{size, length_flat, text_for, state_for, element_for, brush}
 
 -- ## Lines beside a value: as deep as its nodes, and of their kinds
 

@@ -401,7 +401,7 @@ module _ (n : ℕ) where
           follows_got (CopiesAll ((j, S) ∷ C)) ((j, (S, Q)) ∷ G) ((j, (S, U)) ∷ H) (Q, G, U, H, refl, refl, i, m)
 
   taken_copies : (k : ℕ) (C : Context) (S A B : Sequence) (E F : PairContext) → Copies none A B → CopiesAll ((k, S) ∷ C) E F → Follows (Both C S) (taken (A, E)) (taken (B, F))
-  taken_copies k C S A B E F (p, q) (T, E₁, R, F₁, e, f, c, d) = rw (p, q, e, f) (follows_got (Both C S) (T, E₁) (R, F₁) (c, d))
+  taken_copies k C S A B E F (p, q) (T, E₁, R, F₁, e, f, c, d) = rw (e, f, p, q) (follows_got (Both C S) (T, E₁) (R, F₁) (c, d))
 
   compared_copies : (C : Context) (E F : PairContext) (fwd : Forward) (bwd : Backward)
       → ((W J J' : Sequence) → fwd C none ≡ got W → Copies W J J' → Follows (Both C none) (bwd E none J) (bwd F none J'))

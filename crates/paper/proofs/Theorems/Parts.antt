@@ -12,9 +12,9 @@ use Rattle.runs.specs.Theorems.Conservation.{lock, lock_append}
 use Rattle.paper.specs.Data.{Sequence, none, ◌⧺◌, len, got}
 use Rattle.paper.specs.Operators.{cut, split}
 use Rattle.paper.specs.Theorems.Trees.{seq_none, Trees, nil, txt, elm, Scope, flat_slots, paint}
-use Rattle.paper.specs.Theorems.Brushes.{size, brush}
-use Rattle.paper.specs.Theorems.Places.{no_marks}
-use Rattle.paper.specs.Theorems.Ends.{said}
+use Rattle.paper.proofs.Theorems.Brushes.{size, brush}
+use Rattle.paper.proofs.Theorems.Places.{no_marks}
+use Rattle.paper.proofs.Theorems.Ends.{said}
 
 -- ## What is said, put together
 

@@ -23,8 +23,8 @@ use Rattle.programs.specs.SoundPrograms.{entry, fold, Formed, SoundTo, FirstFaul
 use Rattle.programs.specs.Theorems.Sights.{Sight, sights_from, sights, test_sights, Shaped, step_of, To, InTurn, past, sights_past, opens, to_below}
 use Rattle.programs.specs.Theorems.Onward.{AheadOf, ends_ahead, end_ahead, ends_so}
 use Rattle.programs.specs.Theorems.Built.{Built, built}
-use Rattle.programs.specs.Theorems.SoFar.{to_less, sound_to, to_sound, sound_long, sound_less}
-use Rattle.programs.specs.Theorems.Reading.{program_sound, refused_unsound, scanned_formed}
+use Rattle.programs.proofs.Theorems.SoFar.{to_less, sound_to, to_sound, sound_long, sound_less}
+use Rattle.programs.proofs.Theorems.Reading.{program_sound, refused_unsound, scanned_formed}
 
 -- the operand of an 0C or 05 in a tree is its slot byte
 plain_shaped : (b : ℕ) (o : List ℕ) → eqb b 0x0C ≡ false → eqb b 0x05 ≡ false → Shaped (entry b o)

@@ -30,7 +30,7 @@ use Rattle.paper.specs.Strict.{strict_guard}
 use Rattle.paper.specs.Lines.{paper_lines, kinds_in}
 use Rattle.paper.specs.Calls.{Whole, OnPaper, shown_by_paper, ViewOnPaper, put_back_by_paper, ShownAsPaper, ShowsAsPaper, PutBackAsPaper, PutsBackAsPaper}
 use Rattle.paper.specs.Agreement.{Formed, ShownAlike, PassedTen, PuttingBackAgrees, clash_of, handed_back_by, put_back_by, counted_view}
-use Rattle.paper.specs.Theorems.Adequacy.{showing_agrees, master_read, view_read, putting_back_agrees}
+use Rattle.paper.proofs.Theorems.Adequacy.{showing_agrees, master_read, view_read, putting_back_agrees}
 
 -- ## What was judged is what the agreements ask
 

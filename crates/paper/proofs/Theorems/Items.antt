@@ -21,10 +21,10 @@ use Rattle.paper.specs.Semantics.{on_each, lengths}
 use Rattle.paper.specs.Theorems.Constructs.{xmap_forward, xmap_backward}
 use Rattle.paper.specs.Theorems.Trees.{seq_none, seq_assoc, Trees, nil, txt, elm, flat, ◌⊹◌, Scope, flat_slots, names, flat_append}
 use Rattle.paper.specs.Theorems.Trees.{items_of, items_flat, paint, paint_all, paint_append, Right, RightAll, right_append}
-use Rattle.paper.specs.Theorems.Brushes.{size, length_flat, brush, Permit, Fine, FineAll, clash_stays}
-use Rattle.paper.specs.Theorems.Places.{at_fitted, drop_fitted, SameFirst, alike_take, brush_alike, brush_append, fine_alike, fine_parts, fine_append, no_marks}
-use Rattle.paper.specs.Theorems.Ends.{Watched, watched_left, watched_right, pairs, firsts_pairs, said, Ends, went, failed, Backs, PutsBack, ends_at, ends_then}
-use Rattle.paper.specs.Theorems.Parts.{said_both, regroup_first, regroup_slots, split_brush}
+use Rattle.paper.proofs.Theorems.Brushes.{size, length_flat, brush, Permit, Fine, FineAll, clash_stays}
+use Rattle.paper.proofs.Theorems.Places.{at_fitted, drop_fitted, SameFirst, alike_take, brush_alike, brush_append, fine_alike, fine_parts, fine_append, no_marks}
+use Rattle.paper.proofs.Theorems.Ends.{Watched, watched_left, watched_right, pairs, firsts_pairs, said, Ends, went, failed, Backs, PutsBack, ends_at, ends_then}
+use Rattle.paper.proofs.Theorems.Parts.{said_both, regroup_first, regroup_slots, split_brush}
 
 module _ (look : Lookup) (permit : Permit) (watch : ℕ → Bool) where
   abbrev pt : Trees → Sequence

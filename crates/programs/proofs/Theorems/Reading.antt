@@ -22,7 +22,7 @@ use Rattle.programs.specs.Theorems.Prefix.{written_stands}
 use Rattle.programs.specs.Theorems.Sights.{sights_prefix, sights_ways, sights}
 use Rattle.programs.specs.Theorems.Onward.{AheadOf, end_ahead, ends_so}
 use Rattle.programs.specs.Theorems.Built.{Built, built}
-use Rattle.programs.specs.Theorems.SoFar.{length_counted, way_keeps, to_sound}
+use Rattle.programs.proofs.Theorems.SoFar.{length_counted, way_keeps, to_sound}
 
 -- ## Both directions
 

@@ -15,8 +15,8 @@ use Rattle.runs.specs.Theorems.OneMaster.{one_line}
 use Rattle.runs.specs.Theorems.Bounds.{master_good}
 use Rattle.paper.specs.Lines.{sequence}
 use Rattle.paper.specs.Theorems.Trees.{Trees, nil, txt, elm, at, flat, Numbering, mark_for, paint, Right}
-use Rattle.paper.specs.Theorems.Places.{no_marks}
-use Rattle.paper.specs.Theorems.Lines.{marks_in, sequence_view}
+use Rattle.paper.proofs.Theorems.Places.{no_marks}
+use Rattle.paper.proofs.Theorems.Lines.{marks_in, sequence_view}
 
 -- ## A sequence of trees is the flat form of one
 

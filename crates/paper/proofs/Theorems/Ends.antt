@@ -19,9 +19,9 @@ use Rattle.paper.specs.Operators.{mg, Forward, Backward, Guard}
 use Rattle.paper.specs.Semantics.{updated}
 use Rattle.paper.specs.Theorems.Constructs.{Asking as Predicated}
 use Rattle.paper.specs.Theorems.Trees.{trees_in, Trees, nil, txt, flat, Scope, flat_slots, names, from_origin, paint, paint_all, Right, RightAll}
-use Rattle.paper.specs.Theorems.Brushes.{text_for, state_for, brush, Permit, FineText, Fine, FineAll, told}
-use Rattle.paper.specs.Theorems.Brushes.{gathered_flat, clash_stays, clash_joins, Merging, whole, torn, merging}
-use Rattle.paper.specs.Theorems.Places.{no_marks}
+use Rattle.paper.proofs.Theorems.Brushes.{text_for, state_for, brush, Permit, FineText, Fine, FineAll, told}
+use Rattle.paper.proofs.Theorems.Brushes.{gathered_flat, clash_stays, clash_joins, Merging, whole, torn, merging}
+use Rattle.paper.proofs.Theorems.Places.{no_marks}
 
 -- ## Numbers that are watched
 

@@ -22,11 +22,11 @@ use Rattle.paper.specs.Semantics.{branch}
 use Rattle.paper.specs.Theorems.Constructs.{xseq_forward, xpar_forward, xif_forward, xseq_backward, xpar_backward, xif_backward}
 use Rattle.paper.specs.Theorems.Constructs.{Asking as Predicated}
 use Rattle.paper.specs.Theorems.Trees.{Trees, flat, ◌⊹◌, Scope, flat_slots, flat_append, paint, paint_all, paint_append, right_append}
-use Rattle.paper.specs.Theorems.Brushes.{size, length_flat, brush, Permit, Fine, FineAll, told, gathered_flat, clash_stays, Merging, whole, torn, merging}
-use Rattle.paper.specs.Theorems.Places.{alike_take, brush_alike, brush_append, fine_alike, fine_parts, no_marks}
-use Rattle.paper.specs.Theorems.Ends.{Watched, watched_left, watched_right, pairs, firsts_pairs, said, Ends, went, failed}
-use Rattle.paper.specs.Theorems.Ends.{Backs, TestBacks, PutsBack, TestPutsBack, ends_at, ends_all, ends_then, shown_again}
-use Rattle.paper.specs.Theorems.Parts.{said_noted, said_both, regroup_second, regroup_slots, regroup_sources, split_two}
+use Rattle.paper.proofs.Theorems.Brushes.{size, length_flat, brush, Permit, Fine, FineAll, told, gathered_flat, clash_stays, Merging, whole, torn, merging}
+use Rattle.paper.proofs.Theorems.Places.{alike_take, brush_alike, brush_append, fine_alike, fine_parts, no_marks}
+use Rattle.paper.proofs.Theorems.Ends.{Watched, watched_left, watched_right, pairs, firsts_pairs, said, Ends, went, failed}
+use Rattle.paper.proofs.Theorems.Ends.{Backs, TestBacks, PutsBack, TestPutsBack, ends_at, ends_all, ends_then, shown_again}
+use Rattle.paper.proofs.Theorems.Parts.{said_noted, said_both, regroup_second, regroup_slots, regroup_sources, split_two}
 
 module _ (look : Lookup) (permit : Permit) (watch : ℕ → Bool) where
   abbrev pt : Trees → Sequence

@@ -30,15 +30,15 @@ use Rattle.paper.specs.Semantics.{forward}
 use Rattle.paper.specs.Programs.{in_paper}
 use Rattle.paper.specs.Lines.{sequence, paper_lines, kinds_in}
 use Rattle.paper.specs.Theorems.Trees.{flat}
-use Rattle.paper.specs.Theorems.Showing.{Agrees, shows_forward}
-use Rattle.paper.specs.Theorems.Guards.{strict_yields}
-use Rattle.paper.specs.Theorems.Lines.{marks_in, sequence_view}
-use Rattle.paper.specs.Theorems.Masters.{AllNumbering, right_numbering, master_grown}
-use Rattle.paper.specs.Theorems.Printing.{InOrder, print_read, print_unlocked}
-use Rattle.paper.specs.Theorems.Orders.{forest_ordered, master_ordered, same_ordered, handed_ordered}
+use Rattle.paper.proofs.Theorems.Showing.{Agrees, shows_forward}
+use Rattle.paper.proofs.Theorems.Guards.{strict_yields}
+use Rattle.paper.proofs.Theorems.Lines.{marks_in, sequence_view}
+use Rattle.paper.proofs.Theorems.Masters.{AllNumbering, right_numbering, master_grown}
+use Rattle.paper.proofs.Theorems.Printing.{InOrder, print_read, print_unlocked}
+use Rattle.paper.proofs.Theorems.Orders.{forest_ordered, master_ordered, same_ordered, handed_ordered}
 use Rattle.paper.specs.Agreement.{Formed, ShownAlike, PassedTen, clash_of, handed_back_by, put_back_by, counted_view, PuttingBackAgrees}
-use Rattle.paper.specs.Theorems.Alike.{PutAlike, both_put, both_fail, strict_alike}
-use Rattle.paper.specs.Theorems.Suspects.{clash_suspect}
+use Rattle.paper.proofs.Theorems.Alike.{PutAlike, both_put, both_fail, strict_alike}
+use Rattle.paper.proofs.Theorems.Suspects.{clash_suspect}
 
 -- ## Showing
 

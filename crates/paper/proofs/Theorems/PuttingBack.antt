@@ -15,12 +15,12 @@ use Rattle.paper.specs.Semantics.{forward, asks, backward, holds}
 use Rattle.paper.specs.Programs.{worded, judge_of, in_paper, asked}
 use Rattle.paper.specs.Theorems.Judges.{judges_verdict}
 use Rattle.paper.specs.Theorems.Trees.{nil, txt, elm}
-use Rattle.paper.specs.Theorems.Brushes.{Permit}
-use Rattle.paper.specs.Theorems.Ends.{PutsBack, TestPutsBack, Guarding}
-use Rattle.paper.specs.Theorems.Singles.{source_back, made_back, slot_back, contents_back, within_back, bind_back}
-use Rattle.paper.specs.Theorems.Pairs.{then_back, beside_back, choose_back}
-use Rattle.paper.specs.Theorems.Items.{each_back}
-use Rattle.paper.specs.Theorems.Tests.{tagged_back, element_back, compares_back}
+use Rattle.paper.proofs.Theorems.Brushes.{Permit}
+use Rattle.paper.proofs.Theorems.Ends.{PutsBack, TestPutsBack, Guarding}
+use Rattle.paper.proofs.Theorems.Singles.{source_back, made_back, slot_back, contents_back, within_back, bind_back}
+use Rattle.paper.proofs.Theorems.Pairs.{then_back, beside_back, choose_back}
+use Rattle.paper.proofs.Theorems.Items.{each_back}
+use Rattle.paper.proofs.Theorems.Tests.{tagged_back, element_back, compares_back}
 
 module _ (look : Lookup) (permit : Permit) (watch : ℕ → Bool) (guard : Guard) (G : Guarding look permit watch guard) where
   mutual

@@ -15,8 +15,10 @@ use Rattle.paper.specs.Contexts.{PairContext, firsts}
 use Rattle.paper.specs.Operators.{split, in_two, Forward, Backward, iter, guard}
 use Rattle.paper.specs.Strict.{strict_guard}
 use Rattle.paper.specs.Semantics.{lengths, branch, taken, judged_backward, forward, asks, backward, holds}
-use Rattle.paper.specs.Theorems.Brushes.{Permit, FineText}
-use Rattle.paper.specs.Theorems.Ends.{Guarded, passes, stopped, Guarding}
+use Rattle.paper.specs.Theorems.Trees.{nil, txt, paint}
+use Rattle.paper.proofs.Theorems.Places.{no_marks}
+use Rattle.paper.proofs.Theorems.Brushes.{Permit, FineText, brush}
+use Rattle.paper.proofs.Theorems.Ends.{Watched, Guarded, passes, stopped, Guarding}
 
 -- ## The strict guard
 
@@ -46,7 +48,7 @@ pub strict_guarding : (look : Lookup) → Guarding look any_standing every_numbe
 unfolding bytes_of
 strict_guarding look =
     record {
-      fresh = λ w. elim w [ master n ↦ rw (same_text_refl (look.bytes n)) | program e b t ↦ rw (same_text_refl t) ];
+      fresh = λ w. elim w as (λ z. strict_guard (paint look no_marks (txt z nil)) (bytes_of look z) ≡ got (brush look (txt z nil) (locked ∷ []))) [ master n ↦ rw (same_text_refl (look.bytes n)) | program e b t ↦ rw (same_text_refl t) ];
       guarded = λ w s h _. strict_guarded look w s h;
     }
 
@@ -95,8 +97,8 @@ pub printed_guarding : (look : Lookup) (watch : ℕ → Bool) → Guarding look 
 unfolding bytes_of master_number among
 printed_guarding look watch =
     record {
-      fresh = λ w. elim w [ master n ↦ rw (same_text_refl (look.bytes n)) | program e b t ↦ rw (same_text_refl t) ];
-      guarded = λ w s. elim w [ master n ↦ λ h W. watched n s h (W n (rw (eq-eqb n n refl))) | program e b t ↦ λ h W. passes (rw (same_text_refl t)) tt ];
+      fresh = λ w. elim w as (λ z. guard (paint look no_marks (txt z nil)) (bytes_of look z) ≡ got (brush look (txt z nil) (locked ∷ []))) [ master n ↦ rw (same_text_refl (look.bytes n)) | program e b t ↦ rw (same_text_refl t) ];
+      guarded = λ w s. elim w as (λ z. FineText (kept_where look watch) z s → Watched watch (master_number z) → Guarded look (kept_where look watch) watch guard z s) [ master n ↦ λ h W. watched n s h (W n (rw (eq-eqb n n refl))) | program e b t ↦ λ h W. passes (rw (same_text_refl t)) tt ];
     }
   where
     watched : (n : ℕ) (s : Standing) → FineText (kept_where look watch) (master n) s → watch n ≡ true → Guarded look (kept_where look watch) watch guard (master n) s

@@ -10,8 +10,8 @@ use Rattle.runs.specs.Programs.{Transformation, source, contents, within, and_th
 use Rattle.runs.specs.Reading.{below, operations, makes, transformation_at, read_in, read_program}
 use Rattle.programs.specs.SoundPrograms.{◌∈◌, entry, fold, ways, prefix, counted, Formed, FirstFault, SoundProgram}
 use Rattle.programs.specs.Theorems.Ways.{All}
-use Rattle.programs.specs.Theorems.Reading.{program_sound}
-use Rattle.programs.specs.Theorems.Faults.{stops_first}
+use Rattle.programs.proofs.Theorems.Reading.{program_sound}
+use Rattle.programs.proofs.Theorems.Faults.{stops_first}
 
 abbrev bare : ℕ → Entry
 bare b = entry b []

@@ -10,7 +10,7 @@ use Rattle.values.specs.Theorems.Copies.{standing_at}
 use Rattle.paper.specs.Data.{◌⧺◌}
 use Rattle.paper.specs.Lines.{updating_of, element_updating_of}
 use Rattle.paper.specs.Theorems.Trees.{Trees, nil, txt, elm, ◌⊹◌, mark_for, paint}
-use Rattle.paper.specs.Theorems.Brushes.{size, text_for, state_for, element_for, brush, Permit, FineText, FineElement, Fine}
+use Rattle.paper.proofs.Theorems.Brushes.{size, text_for, state_for, element_for, brush, Permit, FineText, FineElement, Fine}
 
 -- ## Places of a list
 

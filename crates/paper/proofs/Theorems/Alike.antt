@@ -35,14 +35,14 @@ use Rattle.paper.specs.Semantics.{forward, backward}
 use Rattle.paper.specs.Programs.{in_paper}
 use Rattle.paper.specs.Lines.{sequence}
 use Rattle.paper.specs.Theorems.Trees.{Trees, flat, paint, Right}
-use Rattle.paper.specs.Theorems.Brushes.{brush, Permit, Fine}
-use Rattle.paper.specs.Theorems.Places.{no_marks}
-use Rattle.paper.specs.Theorems.Ends.{Watched, said, Ends, went, failed, Backs, Guarding}
-use Rattle.paper.specs.Theorems.PuttingBack.{puts_backward}
-use Rattle.paper.specs.Theorems.Guards.{any_standing, every_number, strict_guarding}
-use Rattle.paper.specs.Theorems.Lines.{Beside, unlocked_state, unlocked, InkedAll, sequence_drawn, drawn_brush, marks_in}
-use Rattle.paper.specs.Theorems.Masters.{AllNumbering, right_numbering, Grown, master_grown, paint_unmarked, gathered_whole, gathered_outside}
-use Rattle.paper.specs.Theorems.Views.{FineAlong, along_fine, fine_along, along_no_clash, Permitted, AllPermitted, Read, edited_read, handed_read}
+use Rattle.paper.proofs.Theorems.Brushes.{brush, Permit, Fine}
+use Rattle.paper.proofs.Theorems.Places.{no_marks}
+use Rattle.paper.proofs.Theorems.Ends.{Watched, said, Ends, went, failed, Backs, Guarding}
+use Rattle.paper.proofs.Theorems.PuttingBack.{puts_backward}
+use Rattle.paper.proofs.Theorems.Guards.{any_standing, every_number, strict_guarding}
+use Rattle.paper.proofs.Theorems.Lines.{Beside, unlocked_state, unlocked, InkedAll, sequence_drawn, drawn_brush, marks_in}
+use Rattle.paper.proofs.Theorems.Masters.{AllNumbering, right_numbering, Grown, master_grown, paint_unmarked, gathered_whole, gathered_outside}
+use Rattle.paper.proofs.Theorems.Views.{FineAlong, along_fine, fine_along, along_no_clash, Permitted, AllPermitted, Read, edited_read, handed_read}
 use Rattle.paper.specs.Agreement.{PassedTen, clash_of, handed_back_by, put_back_by, counted_view}
 
 -- both go through, with the same texts and marks (`non` read as untouched); or the paper fails and there is a clash

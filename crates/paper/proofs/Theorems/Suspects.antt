@@ -27,14 +27,14 @@ use Rattle.paper.specs.Semantics.{backward}
 use Rattle.paper.specs.Programs.{in_paper}
 use Rattle.paper.specs.Theorems.Trees.{Trees, nil, txt, elm, flat, from_origin, mark_for, paint}
 use Rattle.paper.specs.Lines.{updating_of, element_updating_of}
-use Rattle.paper.specs.Theorems.Brushes.{size, length_flat, text_for, state_for, element_for, brush, Permit}
-use Rattle.paper.specs.Theorems.Places.{no_marks}
-use Rattle.paper.specs.Theorems.Ends.{said, Ends, went, failed, Guarding}
-use Rattle.paper.specs.Theorems.Guards.{any_standing, is_kept, kept_where, printed_guarding}
-use Rattle.paper.specs.Theorems.OneNode.{Strings, Tags, edited, still, Copies, alone}
-use Rattle.paper.specs.Theorems.Views.{FineNode, FineAlong, Permitted, AllPermitted}
+use Rattle.paper.proofs.Theorems.Brushes.{size, length_flat, text_for, state_for, element_for, brush, Permit}
+use Rattle.paper.proofs.Theorems.Places.{no_marks}
+use Rattle.paper.proofs.Theorems.Ends.{said, Ends, went, failed, Guarding}
+use Rattle.paper.proofs.Theorems.Guards.{any_standing, is_kept, kept_where, printed_guarding}
+use Rattle.paper.proofs.Theorems.OneNode.{Strings, Tags, edited, still, Copies, alone}
+use Rattle.paper.proofs.Theorems.Views.{FineNode, FineAlong, Permitted, AllPermitted}
 use Rattle.paper.specs.Agreement.{PassedTen, put_back_by, counted_view, Suspect}
-use Rattle.paper.specs.Theorems.Alike.{any_permitted, master_trees, master_paint, backs, value_flat, edited_lines, edited_brush, put_ends, went_no_clash}
+use Rattle.paper.proofs.Theorems.Alike.{any_permitted, master_trees, master_paint, backs, value_flat, edited_lines, edited_brush, put_ends, went_no_clash}
 
 -- ## The edits of node n alone
 

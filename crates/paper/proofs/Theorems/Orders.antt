@@ -21,9 +21,9 @@ use Rattle.calls.specs.Theorems.ShownNumbers.{line_is}
 use Rattle.calls.specs.Theorems.ViewEdits.{same_alike}
 use Rattle.paper.specs.Lines.{from_of, text_kind, kinds_in}
 use Rattle.paper.specs.Theorems.Trees.{Numbering}
-use Rattle.paper.specs.Theorems.Lines.{shown_kind}
-use Rattle.paper.specs.Theorems.Masters.{AllNumbering, whole_numbering, view_whole}
-use Rattle.paper.specs.Theorems.Printing.{Sayable, InOrder}
+use Rattle.paper.proofs.Theorems.Lines.{shown_kind}
+use Rattle.paper.proofs.Theorems.Masters.{AllNumbering, whole_numbering, view_whole}
+use Rattle.paper.proofs.Theorems.Printing.{Sayable, InOrder}
 use Rattle.paper.specs.Agreement.{Formed}
 
 -- a formed line with another's kind and number

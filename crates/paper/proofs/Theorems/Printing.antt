@@ -11,7 +11,7 @@ use Rattle.lines.specs.Nodes.{Line, is_element, changed_mark, deleted_mark, prog
 use Rattle.lines.specs.Masters.{depth_after}
 use Rattle.paper.specs.Data.{Updating, ori, non, mod', del, ori_e, del_e, src, code, Sequence, none, str, elt}
 use Rattle.paper.specs.Lines.{updating_of, element_updating_of, from_of, item_of, items_at, sequence, mark_of, element_mark_of, origin_number, text_kind, lines_at, paper_lines}
-use Rattle.paper.specs.Theorems.Lines.{first_line, item_here, item_below, unlocked_state, unlocked}
+use Rattle.paper.proofs.Theorems.Lines.{first_line, item_here, item_below, unlocked_state, unlocked}
 
 -- ## Lines in order
 

@@ -1,0 +1,2 @@
+-- What is proved of other calls beside ours
+pub mod Theorems

@@ -1,0 +1,2 @@
+-- Calls that do not meet the demands, nor our contracts.
+pub mod Trials
