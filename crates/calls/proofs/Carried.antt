@@ -13,7 +13,7 @@ use Rattle.lines.specs.Texts.{same_text}
 use Rattle.lines.specs.Nodes.{Line, changed_mark, deleted_mark, no_line}
 use Rattle.lines.specs.Verdicts.{reply, first_from}
 use Rattle.lines.specs.Views.{mark_counted, counted_line, counted_lines}
-use Rattle.lines.specs.Theorems.CountedMarks.{counted_length, counted_text}
+use Rattle.lines.proofs.Theorems.CountedMarks.{counted_length, counted_text}
 use Rattle.lines.specs.Theorems.SameTexts.{same_text_sound, same_text_refl}
 use Rattle.values.specs.Values.{Value, is_from}
 use Rattle.values.specs.Standings.{Standing, untouched, changed, deleted, is_clash, first_of, rest_of, gathered, says, brings, hands_back}

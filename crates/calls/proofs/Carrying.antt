@@ -12,7 +12,7 @@ use Rattle.lines.specs.Entries.{Entry}
 use Rattle.lines.specs.Verdicts.{first_from}
 use Rattle.lines.specs.Writing.{file_of, put_at}
 use Rattle.lines.specs.Theorems.PutAt.{length_put, put_part}
-use Rattle.lines.specs.Theorems.Places.{first_below, fault_below}
+use Rattle.lines.proofs.Theorems.Places.{first_below, fault_below}
 use Rattle.lines.specs.Engine.Writes.{WroteLines}
 use Rattle.values.specs.Standings.{Standing, is_clash}
 use Rattle.values.specs.Engine.Words.{part, standing_of, standings_at, AllNamed}

@@ -10,7 +10,7 @@ use Rattle.lines.specs.declared.verdict.Verdict.TheVariants.{Fine, Fault}
 use Rattle.lines.specs.Nodes.{Line, nodes}
 use Rattle.lines.specs.Entries.{Entry}
 use Rattle.lines.specs.Views.{same_line, difference_from, first_difference}
-use Rattle.lines.specs.Theorems.Widths.{file_short}
+use Rattle.lines.proofs.Theorems.Widths.{file_short}
 use Rattle.lines.specs.Engine.Starts.{lines_of}
 use Rattle.values.specs.Engine.Words.{value_at}
 use Rattle.runs.specs.Results.{gives}

@@ -16,9 +16,9 @@ use Rattle.lines.specs.Nodes.{nodes}
 use Rattle.lines.specs.Entries.{entries}
 use Rattle.lines.specs.Files.{limit_of, scan}
 use Rattle.lines.specs.Verdicts.{reply}
-use Rattle.lines.specs.Theorems.Reading.{reads_master, reads_program, scanned_whole, said_lines}
-use Rattle.lines.specs.Theorems.RoundTrip.{nodes_writable, master_of_nodes}
-use Rattle.lines.specs.Theorems.Places.{fault_below}
+use Rattle.lines.proofs.Theorems.Reading.{reads_master, reads_program, scanned_whole, said_lines}
+use Rattle.lines.proofs.Theorems.RoundTrip.{nodes_writable, master_of_nodes}
+use Rattle.lines.proofs.Theorems.Places.{fault_below}
 use Rattle.lines.specs.Engine.Starts.{node_at, lines_of, entry_at, entries_of, Scanned}
 use Rattle.runs.specs.declared.tree.Checked.{Checked}
 use Rattle.runs.specs.declared.tree.Checked.TheVariants as checked

@@ -8,7 +8,7 @@ use lib.ListN.{length}
 use Rattle.lines.specs.Nodes.{Line, is_marked}
 use Rattle.lines.specs.Verdicts.{reply, first_from}
 use Rattle.lines.specs.Masters.{master_bounds, unmarked}
-use Rattle.lines.specs.Theorems.Places.{Below, first_below, earlier_below, master_bounds_below}
+use Rattle.lines.proofs.Theorems.Places.{Below, first_below, earlier_below, master_bounds_below}
 use Rattle.runs.specs.Results.{stops}
 use Rattle.calls.specs.declared.reply.Reply.{Reply}
 use Rattle.calls.specs.Judging.{Judged, master_rule}

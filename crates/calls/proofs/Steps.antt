@@ -11,7 +11,7 @@ use Rattle.lines.specs.Entries.{Entry, entries}
 use Rattle.lines.specs.Masters.{master_bounds}
 use Rattle.lines.specs.declared.verdict.Verdict.TheVariants.{Fine}
 use Rattle.lines.specs.Writing.{file_of}
-use Rattle.lines.specs.Theorems.Widths.{file_short}
+use Rattle.lines.proofs.Theorems.Widths.{file_short}
 use Rattle.lines.specs.Engine.Starts.{lines_of, entry_at, entries_of}
 use Rattle.lines.specs.Engine.Writes.{AllWritable, WroteLines}
 use borrow.Author.Tests.{le-leb}

@@ -8,7 +8,7 @@ use lib.ListN.{length}
 use borrow.Author.Tests.{le-leb, lt-leb}
 use Rattle.lines.specs.Nodes.{Line}
 use Rattle.lines.specs.Writing.{file_of, put_at}
-use Rattle.lines.specs.Theorems.Widths.{file_short}
+use Rattle.lines.proofs.Theorems.Widths.{file_short}
 use Rattle.lines.specs.Engine.Writes.{WroteLines}
 use Rattle.sweeping.specs.Sweeping.{swept, new_numbers, number_file}
 use Rattle.sweeping.specs.Theorems.Sound.{swept_few, swept_writable}

@@ -15,9 +15,9 @@ use Rattle.lines.specs.Lines.{cut}
 use Rattle.lines.specs.Nodes.{Line, nodes, node_of}
 use Rattle.lines.specs.Verdicts.{reply}
 use Rattle.lines.specs.Views.{first_difference, program_marked, program_mark}
-use Rattle.lines.specs.Theorems.Reading.{reads_view, scan_count, scanned_whole, said_lines}
-use Rattle.lines.specs.Theorems.Places.{first_below, fault_below, difference_inside}
-use Rattle.lines.specs.Theorems.RoundTrip.{nodes_writable, view_of_nodes}
+use Rattle.lines.proofs.Theorems.Reading.{reads_view, scan_count, scanned_whole, said_lines}
+use Rattle.lines.proofs.Theorems.Places.{first_below, fault_below, difference_inside}
+use Rattle.lines.proofs.Theorems.RoundTrip.{nodes_writable, view_of_nodes}
 use Rattle.lines.specs.Engine.Starts.{Scanned, node_at, lines_of}
 use Rattle.runs.specs.Results.{stops}
 use Rattle.calls.specs.Judging.{formed, keeps, judged_view}

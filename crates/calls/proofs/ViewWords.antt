@@ -13,7 +13,7 @@ use Rattle.lines.specs.Theorems.PutAt.{length_put, put_front}
 use Rattle.lines.specs.Texts.{same_text}
 use Rattle.lines.specs.Nodes.{Line, no_line, line_at}
 use Rattle.lines.specs.Views.{counted_line, counted_lines}
-use Rattle.lines.specs.Theorems.CountedMarks.{counted_length, counted_at}
+use Rattle.lines.proofs.Theorems.CountedMarks.{counted_length, counted_at}
 use Rattle.lines.specs.Theorems.Lists.{map_at}
 use Rattle.lines.specs.Theorems.LinesAt.{nodes_one, line_at_map, text_at_place}
 use Rattle.lines.specs.Engine.Starts.{text_at, node_at, lines_of}

@@ -14,7 +14,7 @@ use Rattle.lines.specs.Lines.{pairs_then_end, is_line}
 use Rattle.lines.specs.Nodes.{all_of, node_form, node_line}
 use Rattle.lines.specs.Entries.{rows, row_of, operand_form, entry_form, entry_line}
 use Rattle.lines.specs.Files.{form_of}
-use Rattle.lines.specs.Theorems.Pairs.{length_decode, get_d_decode, decode_pair, decode_end}
+use Rattle.lines.proofs.Theorems.Pairs.{length_decode, get_d_decode, decode_pair, decode_end}
 use Rattle.lines.specs.Engine.Starts.{pair_at}
 
 -- a line of whole pairs and 0A has the form if its bytes have it: no byte at all is no form

@@ -3,3 +3,4 @@ pub mod Forms
 pub mod Scans
 pub mod Masters
 pub mod Writes
+pub mod Theorems

@@ -14,7 +14,7 @@ use Rattle.lines.specs.Hex.{is_hex}
 use Rattle.lines.specs.Lines.{cut, pairs_then_end}
 use Rattle.lines.specs.Files.{scan_from}
 use Rattle.lines.specs.Theorems.Lists.{drop_one, drop_two}
-use Rattle.lines.specs.Theorems.Pairs.{digit_goes_on}
+use Rattle.lines.proofs.Theorems.Pairs.{digit_goes_on}
 use Rattle.lines.specs.Theorems.Cutting.{first_some, end_within, end_beyond, line_long, cut_at}
 use Rattle.lines.specs.Engine.Starts.{line_length, first_line, pairs_end}
 

@@ -10,7 +10,7 @@ use lib.Seq.{sets, sets-eq, take-suc, length-take-le}
 use Rattle.lines.specs.Hex.{encode}
 use Rattle.lines.specs.Nodes.{Line}
 use Rattle.lines.specs.Writing.{bytes_of, line_bytes, put_at}
-use Rattle.lines.specs.Theorems.Pairs.{length_encode, encode_append}
+use Rattle.lines.proofs.Theorems.Pairs.{length_encode, encode_append}
 
 sets_append : (l : List ℕ) (i : ℕ) (a b : List ℕ) → sets (sets l i a) (i + length a) b ≡ sets l i (a ++ b)
 sets_append l i [] b = ap (λ (k : ℕ). sets l k b) (add-zero i)

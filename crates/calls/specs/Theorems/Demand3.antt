@@ -10,7 +10,7 @@ use Rattle.lines.specs.Files.{scan}
 use Rattle.lines.specs.Verdicts.{reply}
 use Rattle.lines.specs.Views.{first_difference, program_mark}
 use Rattle.lines.specs.Writing.{file_of, put_at}
-use Rattle.lines.specs.Theorems.RoundTrip.{nodes_written}
+use Rattle.lines.proofs.Theorems.RoundTrip.{nodes_written}
 use Rattle.lines.specs.Theorems.PutAt.{put_front}
 use Rattle.lines.specs.Theorems.LineRules.{fields_at, rule_kind}
 use Rattle.lines.specs.Theorems.MasterRules.{unmarked_at}

@@ -7,7 +7,7 @@ use Rattle.std.proofs.Math.Dec.{eqb}
 use Rattle.lines.specs.Nodes.{Line, untouched_mark, changed_mark, deleted_mark}
 use Rattle.lines.specs.Views.{mark_counted}
 use Rattle.lines.specs.Theorems.Bools.{never}
-use Rattle.lines.specs.Theorems.CountedMarks.{counted_written}
+use Rattle.lines.proofs.Theorems.CountedMarks.{counted_written}
 use Rattle.lines.specs.Theorems.SameTexts.{unlike_texts, told_unlike}
 use Rattle.values.specs.Standings.{changed, deleted, sort, says, brings, is_edit, hands_back}
 use Rattle.values.specs.Theorems.Edits.{by_mark}

@@ -14,8 +14,8 @@ use Rattle.lines.specs.Files.{form_of, limit_of, scan_from, scan}
 use Rattle.lines.specs.Masters.{master_bounds}
 use Rattle.lines.specs.Writing.{file_of}
 use Rattle.lines.specs.Theorems.Bools.{and_left, and_right}
-use Rattle.lines.specs.Theorems.Pairs.{decode_bytes}
-use Rattle.lines.specs.Theorems.Widths.{file_short}
+use Rattle.lines.proofs.Theorems.Pairs.{decode_bytes}
+use Rattle.lines.proofs.Theorems.Widths.{file_short}
 use Rattle.lines.specs.Theorems.KindRules.{text_rule, tag_rule}
 use Rattle.lines.specs.Theorems.LineRules.{Short, Fields, rule_made, fields_writable, writable_fields, no_line_fields}
 use Rattle.lines.specs.Engine.Writes.{Bytes, Writable, AllWritable}

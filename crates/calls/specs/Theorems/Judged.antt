@@ -17,9 +17,9 @@ use Rattle.lines.specs.Masters.{master_bounds, unmarked}
 use Rattle.lines.specs.Verdicts.{reply, earlier}
 use Rattle.lines.specs.Views.{first_difference, program_mark}
 use Rattle.lines.specs.Writing.{file_of}
-use Rattle.lines.specs.Theorems.Reading.{scan_count}
-use Rattle.lines.specs.Theorems.RoundTrip.{OfNodes, master_of_nodes, view_of_nodes, scan_written, rewrite_file, nodes_writable, nodes_written}
-use Rattle.lines.specs.Theorems.Widths.{scan_few}
+use Rattle.lines.proofs.Theorems.Reading.{scan_count}
+use Rattle.lines.proofs.Theorems.RoundTrip.{OfNodes, master_of_nodes, view_of_nodes, scan_written, rewrite_file, nodes_writable, nodes_written}
+use Rattle.lines.proofs.Theorems.Widths.{scan_few}
 use Rattle.lines.specs.Engine.Starts.{taken}
 use Rattle.lines.specs.Engine.Writes.{AllWritable}
 use Rattle.runs.specs.declared.stop.Stop.{Stop}

@@ -4,7 +4,7 @@ use Rattle.std.proofs.Common.{sym, ap, ◌∙◌, inl, inr, arith}
 use Rattle.lines.specs.Nodes.{Line, nodes, line_at}
 use Rattle.lines.specs.Writing.{file_of}
 use Rattle.lines.specs.Theorems.PutAt.{put_front}
-use Rattle.lines.specs.Theorems.RoundTrip.{nodes_written}
+use Rattle.lines.proofs.Theorems.RoundTrip.{nodes_written}
 use Rattle.lines.specs.Theorems.KindRules.{order_word, rule_order}
 use Rattle.lines.specs.Theorems.LineRules.{rule_kind, fields_at}
 use Rattle.lines.specs.Engine.Writes.{AllWritable}

@@ -7,8 +7,8 @@ use Rattle.lines.specs.declared.scan.Scan.{Scan}
 use Rattle.lines.specs.declared.scan.Scan.TheVariants.{Lines, Wrong}
 use Rattle.lines.specs.Files.{limit_of, widest_of, longest_of, scan}
 use Rattle.lines.specs.Nodes.{Line}
-use Rattle.lines.specs.Theorems.Widths.{scanned_short}
-use Rattle.lines.specs.Theorems.LongFiles.{cut_long}
+use Rattle.lines.proofs.Theorems.Widths.{scanned_short}
+use Rattle.lines.proofs.Theorems.LongFiles.{cut_long}
 use Rattle.runs.specs.Grounds.{one_master, showing, view}
 use Rattle.runs.specs.Theorems.Congruence.{bind_same}
 use Rattle.calls.specs.Judging.{Judged, formed, ran, judged_program, judged_master, judged_view, judged_show, judged_put_back}

@@ -7,8 +7,8 @@ use Rattle.lines.specs.Masters.{master_bounds}
 use Rattle.lines.specs.Views.{first_difference}
 use Rattle.lines.specs.Writing.{file_of}
 use Rattle.lines.specs.Theorems.PutAt.{put_front}
-use Rattle.lines.specs.Theorems.RoundTrip.{nodes_written}
-use Rattle.lines.specs.Theorems.Widths.{file_short}
+use Rattle.lines.proofs.Theorems.RoundTrip.{nodes_written}
+use Rattle.lines.proofs.Theorems.Widths.{file_short}
 use Rattle.lines.specs.Theorems.MasterRules.{bounds_at}
 use Rattle.lines.specs.Theorems.LineRules.{line_rule, Fields, fields_at, all_writable}
 use Rattle.lines.specs.Engine.Writes.{AllWritable}

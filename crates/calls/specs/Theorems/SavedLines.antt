@@ -4,7 +4,7 @@ use Rattle.std.proofs.Common.{sym, ap, arith}
 use Rattle.lines.specs.Nodes.{Line}
 use Rattle.lines.specs.Views.{first_difference, program_mark, counted_lines}
 use Rattle.lines.specs.Writing.{file_of}
-use Rattle.lines.specs.Theorems.CountedMarks.{counted_length, counted_writable, counted_fresh, counted_unmarked}
+use Rattle.lines.proofs.Theorems.CountedMarks.{counted_length, counted_writable, counted_fresh, counted_unmarked}
 use Rattle.runs.specs.Results.{gives}
 use Rattle.runs.specs.Programs.{Transformation}
 use Rattle.runs.specs.Showing.{Shown}

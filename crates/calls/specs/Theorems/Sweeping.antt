@@ -8,7 +8,7 @@ use Rattle.lines.specs.Nodes.{Line, nodes}
 use Rattle.lines.specs.Verdicts.{Reply, earlier}
 use Rattle.lines.specs.Writing.{file_of, put_at}
 use Rattle.lines.specs.Theorems.PutAt.{put_front, front_behind}
-use Rattle.lines.specs.Theorems.RoundTrip.{nodes_written}
+use Rattle.lines.proofs.Theorems.RoundTrip.{nodes_written}
 use Rattle.lines.specs.Engine.Writes.{AllWritable}
 use Rattle.sweeping.specs.Sweeping.{swept, new_numbers, number_file, numbers_in}
 use Rattle.sweeping.specs.Theorems.Removed.{SameMarksAndDepths, numbers_alone}

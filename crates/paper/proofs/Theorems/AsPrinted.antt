@@ -4,7 +4,7 @@ use Rattle.std.proofs.Common.{sym, ap, subst, ◌∙◌, arith}
 use Rattle.std.proofs.Math.Path.{subst⁻¹}
 use Rattle.lines.specs.Nodes.{Line, is_element as isElementKind}
 use Rattle.lines.specs.Texts.{same_text}
-use Rattle.lines.specs.Theorems.TrimmedTexts.{Unpadded, agree_unpadded}
+use Rattle.lines.proofs.Theorems.TrimmedTexts.{Unpadded, agree_unpadded}
 use Rattle.runs.specs.Programs.{equals, Transformation, source, nothing, text, tag, slot, contents, within}
 use Rattle.runs.specs.Programs.{and_then, beside, each, choose, bind, Test, compares, tagged, is_element}
 use Rattle.paper.specs.Data.{ori, ori_e, code, Sequence, none, str, elt, ◌⧺◌, len, May, fail, got, ◌>>=◌, ◌>>◌, provided}

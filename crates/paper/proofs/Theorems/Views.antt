@@ -13,7 +13,7 @@ use Rattle.lines.specs.Views.{same_line, difference_from, program_marked, counte
 use Rattle.lines.specs.Masters.{depth_after, placed, bounds_from}
 use Rattle.lines.specs.Theorems.Bools.{never, and_parts}
 use Rattle.lines.specs.Theorems.KindRules.{element_mark}
-use Rattle.lines.specs.Theorems.CountedMarks.{counted_same, counted_free, counted_rule}
+use Rattle.lines.proofs.Theorems.CountedMarks.{counted_same, counted_free, counted_rule}
 use Rattle.values.specs.Values.{Origin, master, program, Node, Value, Lookup, element_of, bytes_of}
 use Rattle.values.specs.Standings.{Standing, untouched, locked, changed, deleted, clash, sort, is_clash, first_of, rest_of, says, brings, hands_back}
 use Rattle.values.specs.Theorems.Gathering.{drop_rest}

@@ -1,7 +1,7 @@
 -- That where no text of the master and of the program ends in 20, the paper as printed gives the same.
 use Rattle.std.specs.Prelude.{◌≡◌, false, List, [], ℕ}
 use Rattle.lines.specs.Nodes.{Line, is_element as isElementKind, line_at}
-use Rattle.lines.specs.Theorems.TrimmedTexts.{Unpadded}
+use Rattle.lines.proofs.Theorems.TrimmedTexts.{Unpadded}
 use Rattle.runs.specs.Programs.{Transformation, source, nothing, text, tag, slot, contents, within}
 use Rattle.runs.specs.Programs.{and_then, beside, each, choose, bind, Test, compares, tagged, is_element}
 use Rattle.paper.specs.Data.{Sequence}

@@ -4,7 +4,7 @@ use Rattle.std.proofs.Common.{ap, ap₂}
 use mathlib.Core.List.{List, [], ◌∷◌}
 use Rattle.lines.specs.Nodes.{Line}
 use Rattle.lines.specs.Views.{counted_lines}
-use Rattle.lines.specs.Theorems.CountedMarks.{counted_again}
+use Rattle.lines.proofs.Theorems.CountedMarks.{counted_again}
 use Rattle.values.specs.Values.{Origin, master, program, Value, bytes_of}
 use Rattle.values.specs.Standings.{Standing, says, brings}
 use Rattle.runs.specs.Results.{gives}

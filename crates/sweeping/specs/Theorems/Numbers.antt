@@ -6,8 +6,8 @@ use Rattle.lines.specs.Hex.{decode}
 use Rattle.lines.specs.Lines.{cut}
 use Rattle.lines.specs.Nodes.{Line, line_at}
 use Rattle.lines.specs.Theorems.Bools.{never}
-use Rattle.lines.specs.Theorems.Pairs.{decode_encode}
-use Rattle.lines.specs.Theorems.RoundTrip.{cut_encode}
+use Rattle.lines.proofs.Theorems.Pairs.{decode_encode}
+use Rattle.lines.proofs.Theorems.RoundTrip.{cut_encode}
 use Rattle.sweeping.specs.Sweeping.{removed, kept, anew, numbered_anew, swept, no_number, numbers_from, new_numbers, number_line, number_file, numbers_in}
 use Rattle.sweeping.specs.Demands.{IsRemoved, IsKept}
 use Rattle.sweeping.specs.Theorems.Removed.{removed_exactly, kept_removed}

@@ -3,7 +3,7 @@ use Rattle.std.specs.Prelude.{◌≡◌, refl, Bool, true, false, cond, not, ◌
 use Rattle.std.proofs.Common.{sym, ap, ◌∙◌, eqb-true, eq-eqb}
 use Rattle.lines.specs.Nodes.{Line, changed_mark, deleted_mark}
 use Rattle.lines.specs.Texts.{same_text}
-use Rattle.lines.specs.Theorems.CountedMarks.{by_counted}
+use Rattle.lines.proofs.Theorems.CountedMarks.{by_counted}
 use Rattle.values.specs.Standings.{Standing, untouched, locked, changed, deleted, clash, sort, is_untouched, is_clash, same_standing, says, brings, is_edit, hands_back}
 use Rattle.values.specs.Theorems.Gathering.{only}
 

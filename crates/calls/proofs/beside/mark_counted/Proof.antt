@@ -4,7 +4,7 @@ use borrow.Author.Rules.{rules}
 use Rattle.lines.specs.Texts.{same_text}
 use Rattle.lines.specs.Nodes.{Line}
 use Rattle.lines.specs.Engine.Starts.{node_at, lines_of, entries_of}
-use Rattle.lines.specs.Theorems.CountedMarks.{counted_saved, counted_written}
+use Rattle.lines.proofs.Theorems.CountedMarks.{counted_saved, counted_written}
 use Rattle.lines.specs.Theorems.LinesAt.{text_at_place}
 use Rattle.lines.specs.Theorems.SameTexts.{same_text_comm}
 use Rattle.calls.specs.Engine.Parts.{word_line}

@@ -2,7 +2,7 @@
 use Prim.Native.Nat.{◌≤◌}
 use native.Mathlib.Omega.{arith}
 use borrow.Author.Rules.{rules}
-use Rattle.lines.specs.Theorems.Places.{scanned_wrong}
+use Rattle.lines.proofs.Theorems.Places.{scanned_wrong}
 use Rattle.calls.proofs.Places.{refused}
 use Rattle.calls.proofs.JudgedFiles.{master_misformed, master_few, master_place, master_faulty, master_goes}
 use Rattle.calls.proofs.files.judge_master.Goals as goal

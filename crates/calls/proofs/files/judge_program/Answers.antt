@@ -2,7 +2,7 @@
 use Prim.Native.Nat.{◌≤◌}
 use native.Mathlib.Omega.{arith}
 use borrow.Author.Rules.{rules}
-use Rattle.lines.specs.Theorems.Places.{scanned_wrong}
+use Rattle.lines.proofs.Theorems.Places.{scanned_wrong}
 use Rattle.calls.proofs.Places.{refused}
 use Rattle.calls.proofs.JudgedFiles.{program_misformed, program_few, program_sized, program_faulty, program_goes}
 use Rattle.calls.proofs.files.judge_program.Goals as goal

@@ -4,7 +4,7 @@ use Prim.Native.Nat.{◌≤◌}
 use native.Mathlib.Omega.{arith}
 use borrow.Author.Rules.{rules}
 use Rattle.lines.specs.Nodes.{Line}
-use Rattle.lines.specs.Theorems.Places.{scanned_wrong}
+use Rattle.lines.proofs.Theorems.Places.{scanned_wrong}
 use Rattle.lines.specs.Engine.Starts.{lines_of, entries_of}
 use Rattle.calls.specs.Engine.Parts.{view_lines}
 use Rattle.calls.proofs.Places.{refused}

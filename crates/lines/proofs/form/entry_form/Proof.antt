@@ -6,7 +6,7 @@ use borrow.Author.Rules.{rules}
 use Rattle.lines.specs.Entries.{entry_form}
 use Rattle.lines.specs.Hex.{decode}
 use Rattle.lines.specs.Theorems.Lists.{take_rest}
-use Rattle.lines.specs.Theorems.Pairs.{drop_decode, decode_end}
+use Rattle.lines.proofs.Theorems.Pairs.{drop_decode, decode_end}
 use Rattle.lines.specs.Theorems.TableRule.{unknown_operand}
 use Rattle.lines.proofs.Forms.{no_entry, byte_read}
 use Rattle.lines.proofs.form.entry_form.Statement.{statement}

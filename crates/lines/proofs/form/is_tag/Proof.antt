@@ -8,7 +8,7 @@ use lib.ListN.{length, drop}
 use borrow.Author.Rules.{rules}
 use borrow.Author.Tests.{le-leb, lt-leb}
 use Rattle.lines.specs.Hex.{between, decode}
-use Rattle.lines.specs.Theorems.Pairs.{length_decode}
+use Rattle.lines.proofs.Theorems.Pairs.{length_decode}
 use Rattle.lines.specs.Nodes.{all_of, is_tag}
 use Rattle.lines.proofs.Forms.{all_pair, all_end}
 use Rattle.lines.proofs.form.is_tag.Statement.{statement}

@@ -8,7 +8,7 @@ use lib.ListN.{length, get_or, drop}
 use borrow.Author.Rules.{rules}
 use Rattle.lines.specs.Hex.{decode}
 use Rattle.lines.specs.Texts.{same_text}
-use Rattle.lines.specs.Theorems.Pairs.{length_decode, get_d_decode}
+use Rattle.lines.proofs.Theorems.Pairs.{length_decode, get_d_decode}
 use Rattle.lines.specs.Engine.Starts.{pair_at}
 use Rattle.lines.specs.Theorems.Comparing.{length_differs, byte_differs, text_ends, text_goes_back, text_whole}
 use Rattle.lines.proofs.form.is_word.Statement.{statement}

@@ -3,7 +3,7 @@ use native.Mathlib.Omega.{arith}
 use borrow.Author.Rules.{rules}
 use borrow.Author.Tests.{le-leb, lt-leb, eq-eqb, ne_eqb}
 use Rattle.lines.specs.Theorems.Lists.{take_rest}
-use Rattle.lines.specs.Theorems.Pairs.{length_decode, drop_decode}
+use Rattle.lines.proofs.Theorems.Pairs.{length_decode, drop_decode}
 use Rattle.lines.specs.Nodes.{node_form}
 use Rattle.lines.proofs.Forms.{byte_read}
 use Rattle.lines.proofs.form.node_form.Statement.{statement}

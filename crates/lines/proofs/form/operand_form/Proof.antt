@@ -10,8 +10,8 @@ use borrow.Author.Tests.{not-true, not-false}
 use Rattle.lines.specs.Entries.{text_form, operand_form}
 use Rattle.lines.specs.Hex.{decode}
 use Rattle.lines.specs.Theorems.Lists.{take_rest}
-use Rattle.lines.specs.Theorems.Pairs.{length_decode, drop_decode}
-use Rattle.lines.specs.Theorems.Widths.{text_some}
+use Rattle.lines.proofs.Theorems.Pairs.{length_decode, drop_decode}
+use Rattle.lines.proofs.Theorems.Widths.{text_some}
 use Rattle.lines.proofs.form.operand_form.Statement.{statement}
 use Rattle.lines.proofs.form.operand_form.Tie as tie
 

@@ -3,7 +3,7 @@ use native.Mathlib.Omega.{arith}
 use borrow.Author.Rules.{rules}
 use borrow.Author.Tests.{le-leb, lt-leb}
 use Rattle.lines.specs.Entries.{text_form}
-use Rattle.lines.specs.Theorems.Pairs.{length_decode}
+use Rattle.lines.proofs.Theorems.Pairs.{length_decode}
 use Rattle.lines.proofs.Forms.{byte_read}
 use Rattle.lines.proofs.form.text_form.Statement.{statement}
 use Rattle.lines.proofs.form.text_form.Tie as tie

@@ -5,7 +5,7 @@ use Prim.Native.Nat.{ℕ}
 use lib.ListN.{get_or-eq_default}
 use borrow.Author.Rules.{rules}
 use Rattle.lines.specs.Hex.{is_hex, hex_value, hex_digit}
-use Rattle.lines.specs.Theorems.Pairs.{digit_value, no_value}
+use Rattle.lines.proofs.Theorems.Pairs.{digit_value, no_value}
 use Rattle.lines.proofs.hex.digit_at.Statement.{statement}
 use Rattle.lines.proofs.hex.digit_at.Tie as tie
 

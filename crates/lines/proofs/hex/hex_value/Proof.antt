@@ -6,7 +6,7 @@ use native.Mathlib.Omega.{arith}
 use borrow.Author.Rules.{rules}
 use Rattle.lines.specs.Engine.Digits.{digit_row}
 use Rattle.lines.specs.Hex.{is_hex, hex_value}
-use Rattle.lines.specs.Theorems.Pairs.{value_small, no_value}
+use Rattle.lines.proofs.Theorems.Pairs.{value_small, no_value}
 use Rattle.lines.proofs.hex.hex_value.Statement.{statement}
 use Rattle.lines.proofs.hex.hex_value.Tie as tie
 

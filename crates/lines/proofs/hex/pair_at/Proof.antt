@@ -6,7 +6,7 @@ use native.Mathlib.Numerals.{add-one}
 use lib.ListN.{get_or, get_or-eq_default}
 use borrow.Author.Rules.{rules}
 use Rattle.lines.specs.Hex.{hex_value}
-use Rattle.lines.specs.Theorems.Pairs.{value_small}
+use Rattle.lines.proofs.Theorems.Pairs.{value_small}
 use Rattle.lines.specs.Engine.Starts.{pair_at}
 use Rattle.lines.proofs.hex.pair_at.Statement.{statement}
 use Rattle.lines.proofs.hex.pair_at.Tie as tie

@@ -13,7 +13,7 @@ use Rattle.lines.specs.declared.scan.Scan.{Scan}
 use Rattle.lines.specs.Lines.{cut}
 use Rattle.lines.specs.Files.{form_of, limit_of, scan_from, scan}
 use Rattle.lines.specs.Theorems.Cutting.{cut_from, cut_none}
-use Rattle.lines.specs.Theorems.Widths.{form_width, limit_small, width_small, scan_few}
+use Rattle.lines.proofs.Theorems.Widths.{form_width, limit_small, width_small, scan_few}
 use Rattle.lines.specs.Engine.Starts.{taken, Scanned, starts_from, starts}
 use Rattle.lines.proofs.Forms.{formless}
 use Rattle.lines.proofs.Scans.{Ended, ended, not_ended, scan_full, scan_wrong, scan_more, scan_end, drop_next, note_more}

@@ -1,7 +1,7 @@
 -- Byte j is the pair j behind the length.
 use mathlib.Core.Path.{sym, ◌∙◌}
 use borrow.Author.Rules.{rules}
-use Rattle.lines.specs.Theorems.Reading.{byte_of_text}
+use Rattle.lines.proofs.Theorems.Reading.{byte_of_text}
 use Rattle.lines.proofs.texts.byte_at.Statement.{statement}
 use Rattle.lines.proofs.texts.byte_at.Tie as tie
 

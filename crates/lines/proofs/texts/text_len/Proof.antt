@@ -1,7 +1,7 @@
 -- The length is the pair at the text's place.
 use mathlib.Core.Path.{sym, ◌∙◌}
 use borrow.Author.Rules.{rules}
-use Rattle.lines.specs.Theorems.Reading.{length_bytes}
+use Rattle.lines.proofs.Theorems.Reading.{length_bytes}
 use Rattle.lines.specs.Engine.Starts.{text_at}
 use Rattle.lines.proofs.texts.text_len.Statement.{statement}
 use Rattle.lines.proofs.texts.text_len.Tie as tie

@@ -6,7 +6,7 @@ use native.Mathlib.Omega.{arith}
 use lib.ListN.{length, take}
 use borrow.Author.Rules.{rules}
 use Rattle.lines.specs.Texts.{same_text, trimmed, agree}
-use Rattle.lines.specs.Theorems.TrimmedTexts.{trimmed_take, trimmed_length}
+use Rattle.lines.proofs.Theorems.TrimmedTexts.{trimmed_take, trimmed_length}
 use Rattle.lines.proofs.texts.texts_agree.Statement.{statement}
 use Rattle.lines.proofs.texts.texts_agree.Tie as tie
 

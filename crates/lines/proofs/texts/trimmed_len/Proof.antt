@@ -8,7 +8,7 @@ use lib.Seq.{length-take-le, take_all, take-suc}
 use borrow.Author.Rules.{rules}
 use Rattle.lines.specs.Texts.{space, trimmed}
 use Rattle.lines.specs.Engine.Starts.{text_at}
-use Rattle.lines.specs.Theorems.TrimmedTexts.{spaces_behind, other_behind}
+use Rattle.lines.proofs.Theorems.TrimmedTexts.{spaces_behind, other_behind}
 use Rattle.lines.proofs.texts.trimmed_len.Statement.{statement}
 use Rattle.lines.proofs.texts.trimmed_len.Tie as tie
 

@@ -6,8 +6,8 @@ use lib.ListN.{length, length-set, take}
 use lib.Seq.{sets, take_all}
 use borrow.Author.Rules.{rules}
 use Rattle.lines.specs.Hex.{encode}
-use Rattle.lines.specs.Theorems.Pairs.{length_encode}
-use Rattle.lines.specs.Theorems.Reading.{digit_of_text}
+use Rattle.lines.proofs.Theorems.Pairs.{length_encode}
+use Rattle.lines.proofs.Theorems.Reading.{digit_of_text}
 use Rattle.lines.specs.Engine.Starts.{text_at}
 use Rattle.lines.proofs.Writes.{put_next}
 use Rattle.lines.proofs.write.put_text.Statement.{statement}

@@ -5,7 +5,7 @@ use Prim.Native.Nat.{◌^◌, ◌+◌, ◌*◌, ◌/◌, ◌%◌, ◌≤◌, ◌
 use native.Mathlib.Omega.{arith}
 use lib.ListN.{length, length-set}
 use borrow.Author.Rules.{rules}
-use Rattle.lines.specs.Theorems.RoundTrip.{length_line}
+use Rattle.lines.proofs.Theorems.RoundTrip.{length_line}
 use Rattle.lines.specs.Writing.{bytes_of}
 use Rattle.lines.specs.Engine.Starts.{text_at}
 use Rattle.lines.specs.Engine.Writes.{headed}

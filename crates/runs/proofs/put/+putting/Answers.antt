@@ -52,14 +52,14 @@ pub put-copy-requires-clause-len_in_bounds : goal.put-copy-requires-clause-len_i
 put-copy-requires-clause-len_in_bounds t c =
     let h = here c.requires.ready_at in
     let n = source_long c.requires.ready_at c.requires.put_space_at c.requires.seen_at (here c.requires.ready_at).some
-        (operation c.args.prog.now c.args.entries.now (here c.requires.ready_at) c.operation_at-operation.ensures c.in-1.is) in
+    (operation c.args.prog.now c.args.entries.now (here c.requires.ready_at) c.operation_at-operation.ensures c.in-1.is) in
     omega arith
 
 pub put-copy-requires-clause-fact : goal.put-copy-requires-clause-fact
 put-copy-requires-clause-fact t c =
     let h = here c.requires.ready_at in
     let n = source_long c.requires.ready_at c.requires.put_space_at c.requires.seen_at (here c.requires.ready_at).some
-        (operation c.args.prog.now c.args.entries.now (here c.requires.ready_at) c.operation_at-operation.ensures c.in-1.is) in
+    (operation c.args.prog.now c.args.entries.now (here c.requires.ready_at) c.operation_at-operation.ensures c.in-1.is) in
     inr (omega arith)
 
 pub put-bounds-entries-at-in-5 : goal.put-bounds-entries-at-in-5
@@ -88,33 +88,83 @@ pub put-put_contents-requires : goal.put-put_contents-requires
 put-put_contents-requires t c =
     let h = here c.requires.ready_at in
     let n = contents_long c.requires.ready_at c.requires.put_space_at c.requires.seen_at (here c.requires.ready_at).some
-        (operation c.args.prog.now c.args.entries.now (here c.requires.ready_at) c.operation_at-operation.ensures c.in-6.is) in
+    (operation c.args.prog.now c.args.entries.now (here c.requires.ready_at) c.operation_at-operation.ensures c.in-6.is) in
     omega arith
 
 pub put-put_within-requires : goal.put-put_within-requires
-put-put_within-requires t c =
-    (omega arith, (c.requires.ready_at, (c.requires.put_space_at, (c.requires.seen_at,
-        operation c.args.prog.now c.args.entries.now (here c.requires.ready_at) c.operation_at-operation.ensures c.in-7.is))))
+put-put_within-requires t c = (
+  omega arith,
+  (
+    c.requires.ready_at,
+    (
+      c.requires.put_space_at,
+      (
+        c.requires.seen_at,
+        operation c.args.prog.now c.args.entries.now (here c.requires.ready_at) c.operation_at-operation.ensures c.in-7.is,
+      ),
+    ),
+  ),
+)
 
 pub put-put_and_then-requires : goal.put-put_and_then-requires
-put-put_and_then-requires t c =
-    (omega arith, (c.requires.ready_at, (c.requires.put_space_at, (c.requires.seen_at,
-        operation c.args.prog.now c.args.entries.now (here c.requires.ready_at) c.operation_at-operation.ensures c.in-8.is))))
+put-put_and_then-requires t c = (
+  omega arith,
+  (
+    c.requires.ready_at,
+    (
+      c.requires.put_space_at,
+      (
+        c.requires.seen_at,
+        operation c.args.prog.now c.args.entries.now (here c.requires.ready_at) c.operation_at-operation.ensures c.in-8.is,
+      ),
+    ),
+  ),
+)
 
 pub put-put_beside-requires : goal.put-put_beside-requires
-put-put_beside-requires t c =
-    (omega arith, (c.requires.ready_at, (c.requires.put_space_at, (c.requires.seen_at,
-        operation c.args.prog.now c.args.entries.now (here c.requires.ready_at) c.operation_at-operation.ensures c.in-9.is))))
+put-put_beside-requires t c = (
+  omega arith,
+  (
+    c.requires.ready_at,
+    (
+      c.requires.put_space_at,
+      (
+        c.requires.seen_at,
+        operation c.args.prog.now c.args.entries.now (here c.requires.ready_at) c.operation_at-operation.ensures c.in-9.is,
+      ),
+    ),
+  ),
+)
 
 pub put-put_each-requires : goal.put-put_each-requires
-put-put_each-requires t c =
-    (omega arith, (c.requires.ready_at, (c.requires.put_space_at, (c.requires.seen_at,
-        operation c.args.prog.now c.args.entries.now (here c.requires.ready_at) c.operation_at-operation.ensures c.in-10.is))))
+put-put_each-requires t c = (
+  omega arith,
+  (
+    c.requires.ready_at,
+    (
+      c.requires.put_space_at,
+      (
+        c.requires.seen_at,
+        operation c.args.prog.now c.args.entries.now (here c.requires.ready_at) c.operation_at-operation.ensures c.in-10.is,
+      ),
+    ),
+  ),
+)
 
 pub put-put_choose-requires : goal.put-put_choose-requires
-put-put_choose-requires t c =
-    (omega arith, (c.requires.ready_at, (c.requires.put_space_at, (c.requires.seen_at,
-        operation c.args.prog.now c.args.entries.now (here c.requires.ready_at) c.operation_at-operation.ensures c.in-11.is))))
+put-put_choose-requires t c = (
+  omega arith,
+  (
+    c.requires.ready_at,
+    (
+      c.requires.put_space_at,
+      (
+        c.requires.seen_at,
+        operation c.args.prog.now c.args.entries.now (here c.requires.ready_at) c.operation_at-operation.ensures c.in-11.is,
+      ),
+    ),
+  ),
+)
 
 pub put-fill-requires : goal.put-fill-requires
 put-fill-requires t c = let h = here c.requires.ready_at in omega arith
@@ -122,12 +172,22 @@ put-fill-requires t c = let h = here c.requires.ready_at in omega arith
 pub put-put_bind-requires : goal.put-put_bind-requires
 put-put_bind-requires t c =
     let left : c.operation_at-operation.result ≡ 12 =
-        elim c.in_default-operation.branch [
-          put-in_default-operation-via-then-operation-lt1-2 w ↦ omega arith
-          | put-in_default-operation-via-else-operation-lt1-2+else-operation-lt5 w ↦ omega arith
-        ] in
-    (omega arith, (c.requires.ready_at, (c.requires.put_space_at, (c.requires.seen_at,
-        operation c.args.prog.now c.args.entries.now (here c.requires.ready_at) c.operation_at-operation.ensures left))))
+    elim c.in_default-operation.branch [
+      | put-in_default-operation-via-then-operation-lt1-2 w ↦ omega arith
+      | put-in_default-operation-via-else-operation-lt1-2+else-operation-lt5 w ↦ omega arith
+    ] in (
+      omega arith,
+      (
+        c.requires.ready_at,
+        (
+          c.requires.put_space_at,
+          (
+            c.requires.seen_at,
+            operation c.args.prog.now c.args.entries.now (here c.requires.ready_at) c.operation_at-operation.ensures left,
+          ),
+        ),
+      ),
+    )
 
 pub put-returns-then-operation-lt1 : goal.put-returns-then-operation-lt1
 put-returns-then-operation-lt1 t c =
@@ -250,9 +310,13 @@ put_and_then-put-requires-in-Value t c =
     let b = begun c.requires.ready_at c.requires.put_space_at c.requires.seen_at c.requires.at_value in
     let l = then_levels b in
     let g = got (rw c.below.ensures at c.show.ensures) c.show.auto.work c.in-Value.v c.in-Value.is in
-    rw (c.seeing-first.ensures, c.below_on-under.ensures)
-    (omega arith, ((ready_then c.requires.ready_at c.requires.at_value).0,
-        then_asks_first b g (rw c.below_on-over.ensures at c.put.ensures).frame c.put.auto.work c.put.auto.marks))
+    rw (c.seeing-first.ensures, c.below_on-under.ensures) (
+      omega arith,
+      (
+        (ready_then c.requires.ready_at c.requires.at_value).0,
+        then_asks_first b g (rw c.below_on-over.ensures at c.put.ensures).frame c.put.auto.work c.put.auto.marks,
+      ),
+    )
 
 pub put_and_then-copy-requires-clause-len_in_bounds : goal.put_and_then-copy-requires-clause-len_in_bounds
 put_and_then-copy-requires-clause-len_in_bounds t c =
@@ -305,7 +369,7 @@ put_beside-put-requires t c =
     let l = beside_levels b in
     let g = got (rw c.below.ensures at c.show.ensures) c.show.auto.work c.in-Value.v c.in-Value.is in
     let again = shown_before (rw c.below.ensures at c.show.ensures).frame c.requires.put_space_at.below c.requires.put_space_at.bound
-        (rw c.after-x2.ensures at (rw c.below-in-Value.ensures at c.show-in-Value.ensures)) in
+    (rw c.after-x2.ensures at (rw c.below-in-Value.ensures at c.show-in-Value.ensures)) in
     let h = got again (c.show-in-Value.auto.work ∙ c.show.auto.work) c.in-Value-show.u c.in-Value-show.is in
     rw (c.seeing-second.ensures, c.below-in-Value-show.ensures)
     (omega arith, rw c.after-x2.ensures ((ready_beside c.requires.ready_at c.requires.at_value).1, beside_asks_second b g h refl))
@@ -321,11 +385,15 @@ put_beside-put-requires-in-Value-show t c =
     let l = beside_levels b in
     let g = got (rw c.below.ensures at c.show.ensures) c.show.auto.work c.in-Value.v c.in-Value.is in
     let again = shown_before (rw c.below.ensures at c.show.ensures).frame c.requires.put_space_at.below c.requires.put_space_at.bound
-        (rw c.after-x2.ensures at (rw c.below-in-Value.ensures at c.show-in-Value.ensures)) in
+    (rw c.after-x2.ensures at (rw c.below-in-Value.ensures at c.show-in-Value.ensures)) in
     let h = got again (c.show-in-Value.auto.work ∙ c.show.auto.work) c.in-Value-show.u c.in-Value-show.is in
-    rw (c.seeing-first.ensures, c.below_on-under.ensures)
-    (omega arith, ((ready_beside c.requires.ready_at c.requires.at_value).0,
-        beside_asks_first b g h (rw (c.seeing-second.ensures, c.below-in-Value-show.ensures) at c.put.ensures).frame c.put.auto.work c.put.auto.marks))
+    rw (c.seeing-first.ensures, c.below_on-under.ensures) (
+      omega arith,
+      (
+        (ready_beside c.requires.ready_at c.requires.at_value).0,
+        beside_asks_first b g h (rw (c.seeing-second.ensures, c.below-in-Value-show.ensures) at c.put.ensures).frame c.put.auto.work c.put.auto.marks,
+      ),
+    )
 
 pub put_beside-merge-requires-clause-len_in_bounds : goal.put_beside-merge-requires-clause-len_in_bounds
 put_beside-merge-requires-clause-len_in_bounds t c =
@@ -337,7 +405,7 @@ put_beside-returns-in-Value-show t c =
     let b = begun c.requires.ready_at c.requires.put_space_at c.requires.seen_at c.requires.at_value in
     let g = got (rw c.below.ensures at c.show.ensures) c.show.auto.work c.in-Value.v c.in-Value.is in
     let again = shown_before (rw c.below.ensures at c.show.ensures).frame c.requires.put_space_at.below c.requires.put_space_at.bound
-        (rw c.after-x2.ensures at (rw c.below-in-Value.ensures at c.show-in-Value.ensures)) in
+    (rw c.after-x2.ensures at (rw c.below-in-Value.ensures at c.show-in-Value.ensures)) in
     let h = got again (c.show-in-Value.auto.work ∙ c.show.auto.work) c.in-Value-show.u c.in-Value-show.is in
     let y = rw c.after-x2.ensures at (rw (c.seeing-second.ensures, c.below-in-Value-show.ensures) at c.put.ensures) in
     beside_back b g h (c.put-in-Value-show.auto.work ∙ (c.put.auto.work ∙ (c.show-in-Value.auto.work ∙ c.show.auto.work))) y
@@ -347,7 +415,7 @@ pub put_beside-returns-in_default-show : goal.put_beside-returns-in_default-show
 put_beside-returns-in_default-show t c =
     let b = begun c.requires.ready_at c.requires.put_space_at c.requires.seen_at c.requires.at_value in
     let again = shown_before (rw c.below.ensures at c.show.ensures).frame c.requires.put_space_at.below c.requires.put_space_at.bound
-        (rw c.after-x2.ensures at (rw c.below-in-Value.ensures at c.show-in-Value.ensures)) in
+    (rw c.after-x2.ensures at (rw c.below-in-Value.ensures at c.show-in-Value.ensures)) in
     absurd (second_goes b (halted again c.in_default-show.field-0 c.in_default-show.is))
 
 pub put_beside-returns-in_default : goal.put_beside-returns-in_default
@@ -430,9 +498,11 @@ put_choose-put-requires t c =
     let b = begun c.requires.ready_at c.requires.put_space_at c.requires.seen_at c.requires.at_value in
     let l = choose_levels b in
     let said = told (rw c.below.ensures at c.test.ensures) c.in-Says.is in
-    rw c.below-taken.ensures
-    (omega arith, rw c.chosen-branch.ensures
-        (ready_branch c.requires.ready_at c.requires.at_value c.in-Says.yes, branch_asks b said c.test.auto.work (omega arith) refl))
+    rw c.below-taken.ensures (
+      omega arith,
+      rw c.chosen-branch.ensures
+          (ready_branch c.requires.ready_at c.requires.at_value c.in-Says.yes, branch_asks b said c.test.auto.work (omega arith) refl),
+    )
 
 pub put_choose-below-asked-requires : goal.put_choose-below-asked-requires
 put_choose-below-asked-requires t c =
@@ -444,10 +514,14 @@ put_choose-put_test-requires t c =
     let b = begun c.requires.ready_at c.requires.put_space_at c.requires.seen_at c.requires.at_value in
     let l = choose_levels b in
     let said = told (rw c.below.ensures at c.test.ensures) c.in-Says.is in
-    rw c.below-asked.ensures
-    (omega arith, ((ready_choose c.requires.ready_at c.requires.at_value).0,
+    rw c.below-asked.ensures (
+      omega arith,
+      (
+        (ready_choose c.requires.ready_at c.requires.at_value).0,
         test_asks b said (rw c.below-taken.ensures at c.put.ensures).frame
-        (c.put.auto.work ∙ c.test.auto.work) (omega arith) c.put.auto.marks))
+            (c.put.auto.work ∙ c.test.auto.work) (omega arith) c.put.auto.marks,
+      ),
+    )
 
 pub put_choose-returns-in-Says : goal.put_choose-returns-in-Says
 put_choose-returns-in-Says t c =
@@ -485,9 +559,13 @@ put_bind-put-requires t c =
     let l = bind_levels b in
     let i = in_starts c.args.prog.now c.args.entries.now (here c.requires.ready_at) in
     let y = bind_byte c.args.prog.now c.args.entries.now c.args.at.entry i c.slot_at-byte.result c.slot_at-byte.ensures c.requires.at_value in
-    rw c.below_bound-inner.ensures
-    (omega arith, (ready_bind c.requires.ready_at c.requires.at_value c.requires.put_space_at.bound c.slot_at-byte.result c.args.at.start c.args.at.len y,
-        bind_asks b y c.fill.ensures (omega arith)))
+    rw c.below_bound-inner.ensures (
+      omega arith,
+      (
+        ready_bind c.requires.ready_at c.requires.at_value c.requires.put_space_at.bound c.slot_at-byte.result c.args.at.start c.args.at.len y,
+        bind_asks b y c.fill.ensures (omega arith),
+      ),
+    )
 
 pub put_bind-bring-requires : goal.put_bind-bring-requires
 put_bind-bring-requires t c =
@@ -513,35 +591,35 @@ put_test-bounds-entries-at t c = in_starts c.args.prog.now c.args.entries.now (h
 pub put_test-fill-requires : goal.put_test-fill-requires
 put_test-fill-requires t c =
     let b = begun_test c.requires.ready_test_at c.requires.test_space_at c.requires.asked_at
-        (operation c.args.prog.now c.args.entries.now (here_test c.requires.ready_test_at) c.operation_at.ensures c.in-17.is) in
+    (operation c.args.prog.now c.args.entries.now (here_test c.requires.ready_test_at) c.operation_at.ensures c.in-17.is) in
     let f = equals_facts b (omega arith) in
     omega arith
 
 pub put_test-merge-requires-clause-len_in_bounds : goal.put_test-merge-requires-clause-len_in_bounds
 put_test-merge-requires-clause-len_in_bounds t c =
     let b = begun_test c.requires.ready_test_at c.requires.test_space_at c.requires.asked_at
-        (operation c.args.prog.now c.args.entries.now (here_test c.requires.ready_test_at) c.operation_at.ensures c.in-17.is) in
+    (operation c.args.prog.now c.args.entries.now (here_test c.requires.ready_test_at) c.operation_at.ensures c.in-17.is) in
     let f = equals_facts b (omega arith) in
     omega arith
 
 pub put_test-overflow_add-at : goal.put_test-overflow_add-at
 put_test-overflow_add-at t c =
     let b = begun_test c.requires.ready_test_at c.requires.test_space_at c.requires.asked_at
-        (operation c.args.prog.now c.args.entries.now (here_test c.requires.ready_test_at) c.operation_at.ensures c.in-17.is) in
+    (operation c.args.prog.now c.args.entries.now (here_test c.requires.ready_test_at) c.operation_at.ensures c.in-17.is) in
     let f = equals_facts b (omega arith) in
     omega arith
 
 pub put_test-below_on-under-requires : goal.put_test-below_on-under-requires
 put_test-below_on-under-requires t c =
     let b = begun_test c.requires.ready_test_at c.requires.test_space_at c.requires.asked_at
-        (operation c.args.prog.now c.args.entries.now (here_test c.requires.ready_test_at) c.operation_at.ensures c.in-17.is) in
+    (operation c.args.prog.now c.args.entries.now (here_test c.requires.ready_test_at) c.operation_at.ensures c.in-17.is) in
     let f = equals_facts b (omega arith) in
     omega arith
 
 pub put_test-put-requires : goal.put_test-put-requires
 put_test-put-requires t c =
     let b = begun_test c.requires.ready_test_at c.requires.test_space_at c.requires.asked_at
-        (operation c.args.prog.now c.args.entries.now (here_test c.requires.ready_test_at) c.operation_at.ensures c.in-17.is) in
+    (operation c.args.prog.now c.args.entries.now (here_test c.requires.ready_test_at) c.operation_at.ensures c.in-17.is) in
     let f = equals_facts b (omega arith) in
     rw (c.seeing-inner.ensures, c.below_on-under.ensures)
     (omega arith, (ready_equals c.requires.ready_test_at b.op, equals_asks b c.fill.ensures c.merge.ensures))
@@ -549,7 +627,7 @@ put_test-put-requires t c =
 pub put_test-returns-in-17 : goal.put_test-returns-in-17
 put_test-returns-in-17 t c =
     let b = begun_test c.requires.ready_test_at c.requires.test_space_at c.requires.asked_at
-        (operation c.args.prog.now c.args.entries.now (here_test c.requires.ready_test_at) c.operation_at.ensures c.in-17.is) in
+    (operation c.args.prog.now c.args.entries.now (here_test c.requires.ready_test_at) c.operation_at.ensures c.in-17.is) in
     equals_back b c.fill.ensures c.merge.ensures (rw (c.seeing-inner.ensures, c.below_on-under.ensures) at c.put.ensures)
 
 pub put_test-returns-in_default : goal.put_test-returns-in_default

@@ -74,8 +74,8 @@ show-show_made-requires t c = let h = here c.requires.ready_at in omega arith
 pub show-show_bind-requires : goal.show-show_bind-requires
 show-show_bind-requires t c =
     let l : c.operation_at-operation.result ≡ 12 =
-        elim c.in_default-operation.branch
-        [ show-in_default-operation-via-then-operation-lt1-2 w ↦ omega arith | show-in_default-operation-via-else-operation-lt1-2+else-operation-lt5 w ↦ omega arith ] in
+    elim c.in_default-operation.branch
+    [ show-in_default-operation-via-then-operation-lt1-2 w ↦ omega arith | show-in_default-operation-via-else-operation-lt1-2+else-operation-lt5 w ↦ omega arith ] in
     let o = operation_read c.args.prog.now c.args.entries.now (here c.requires.ready_at) c.operation_at-operation.ensures l in
     (omega arith, (c.requires.ready_at, (c.requires.space_at, o)))
 
@@ -420,7 +420,7 @@ pub show_within-lower-requires-clause-len_in_bounds : goal.show_within-lower-req
 show_within-lower-requires-clause-len_in_bounds t c =
     let h = here (ready_within c.requires.ready_at c.requires.at_value) in
     let s = element_words (made_by (entries_of c.args.prog.now c.args.entries.now)) c.args.work.now c.args.at.start c.args.at.len (omega arith)
-        (lookup_of (lines_of c.args.master.now c.args.nodes.now)) (rw (← c.if-not-one_element.ensures)) in
+    (lookup_of (lines_of c.args.master.now c.args.nodes.now)) (rw (← c.if-not-one_element.ensures)) in
     (omega arith, omega arith)
 
 pub show_within-below_on-inner-requires : goal.show_within-below_on-inner-requires

@@ -11,7 +11,7 @@ use Rattle.lines.specs.Files.{scan}
 use Rattle.lines.specs.Verdicts.{first_from, earlier}
 use Rattle.lines.specs.Masters.{placed, depth_after, bounds_from, master_bounds}
 use Rattle.lines.specs.Views.{same_line, difference_from}
-use Rattle.lines.specs.Theorems.Widths.{limit_small}
+use Rattle.lines.proofs.Theorems.Widths.{limit_small}
 use Rattle.lines.specs.Engine.Starts.{Scanned}
 
 -- ## Scans

@@ -14,7 +14,7 @@ use Rattle.lines.specs.declared.scan.Scan.TheVariants.{Wrong}
 use Rattle.lines.specs.Lines.{cut}
 use Rattle.lines.specs.Files.{form_of, limit_of, widest_of, longest_of, scan_from, scan}
 use Rattle.lines.specs.Theorems.Cutting.{cut_first, first_some, first_within, joined, joined_cut}
-use Rattle.lines.specs.Theorems.Widths.{form_width}
+use Rattle.lines.proofs.Theorems.Widths.{form_width}
 use Rattle.lines.specs.Engine.Starts.{line_length}
 
 -- the first line of a file that was cut: whole, or the whole of what is left

@@ -22,9 +22,9 @@ use Rattle.lines.specs.Entries.{text_form, operand_form, entry_form, entry_line,
 use Rattle.lines.specs.Files.{form_of, limit_of, widest_of, longest_of, scan_from, scan}
 use Rattle.lines.specs.Writing.{file_of}
 use Rattle.lines.specs.Theorems.Bools.{never, and_left, and_right}
-use Rattle.lines.specs.Theorems.Pairs.{line_length_is}
+use Rattle.lines.proofs.Theorems.Pairs.{line_length_is}
 use Rattle.lines.specs.Theorems.Cutting.{joined, joined_cut}
-use Rattle.lines.specs.Theorems.RoundTrip.{view_of_nodes, scan_written}
+use Rattle.lines.proofs.Theorems.RoundTrip.{view_of_nodes, scan_written}
 use Rattle.lines.specs.Engine.Starts.{taken}
 use Rattle.lines.specs.Engine.Writes.{AllWritable}
 

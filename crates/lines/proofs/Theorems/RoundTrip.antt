@@ -14,7 +14,7 @@ use Rattle.lines.specs.Nodes.{Line, node_form, node_line, node_of, nodes}
 use Rattle.lines.specs.Files.{form_of, limit_of, scan_from, scan}
 use Rattle.lines.specs.Writing.{bytes_of, line_bytes, file_of}
 use Rattle.lines.specs.Theorems.Bools.{and_left, and_right}
-use Rattle.lines.specs.Theorems.Pairs.{digit_ends_nothing, length_encode, decode_bytes, decode_encode, encode_decode, pairs_encode}
+use Rattle.lines.proofs.Theorems.Pairs.{digit_ends_nothing, length_encode, decode_bytes, decode_encode, encode_decode, pairs_encode}
 use Rattle.lines.specs.Theorems.Cutting.{joined, joined_cut}
 use Rattle.lines.specs.Engine.Writes.{Bytes, Writable, AllWritable}
 

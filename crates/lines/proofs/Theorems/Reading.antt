@@ -19,7 +19,7 @@ use Rattle.lines.specs.Nodes.{node_form, node_line, node_of, nodes}
 use Rattle.lines.specs.Entries.{text_form, operand_form, entry_form, entry_line, entry_of, entries, row_of}
 use Rattle.lines.specs.Files.{form_of, limit_of, scan_from, scan}
 use Rattle.lines.specs.Theorems.Bools.{never, and_left, and_right}
-use Rattle.lines.specs.Theorems.Pairs.{high_digit, low_digit, get_d_decode, pair_part, line_length_is}
+use Rattle.lines.proofs.Theorems.Pairs.{high_digit, low_digit, get_d_decode, pair_part, line_length_is}
 use Rattle.lines.specs.Theorems.Cutting.{cut_at, line_inside, end_within, end_beyond, line_long, length_starts}
 use Rattle.lines.specs.Engine.Starts.{pair_at, line_length, starts_from, starts, bytes_from, text_at, node_at, lines_of, operand_at, entry_at, entries_of, Scanned}
 
