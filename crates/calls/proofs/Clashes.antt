@@ -12,7 +12,7 @@ use Rattle.lines.specs.Verdicts.{first_from}
 use Rattle.lines.specs.Theorems.FirstFault.{first_none, first_here, first_later}
 use Rattle.values.specs.Standings.{Standing, untouched, locked, deleted, clash, changed, sort, is_clash}
 use Rattle.values.specs.Engine.Words.{standing_of, standings_at}
-use Rattle.values.specs.Theorems.WordLaws.{standings_cons}
+use Rattle.values.proofs.Theorems.WordLaws.{standings_cons}
 
 module _ (texts : ℕ → List ℕ) where
   clash_word : (x : ℕ) → is_clash (standing_of texts x) ≡ eqb x 3

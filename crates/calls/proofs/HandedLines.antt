@@ -15,7 +15,7 @@ use Rattle.lines.specs.Engine.Writes.{headed}
 use Rattle.values.specs.Standings.{Standing, untouched, hands_back, rest_of}
 use Rattle.values.specs.Engine.Words.{part, standing_of, standings_at}
 use Rattle.values.specs.Theorems.Extents.{length_part, get_d_part}
-use Rattle.values.specs.Theorems.WordLaws.{length_standings}
+use Rattle.values.proofs.Theorems.WordLaws.{length_standings}
 use Rattle.calls.specs.Engine.Parts.{mark_left, handed_over, texts_of, handed_lines, HandingRoom}
 
 -- ## The mark left

@@ -19,7 +19,7 @@ use Rattle.lines.specs.Engine.Writes.{headed}
 use Rattle.values.specs.Values.{Origin, master, program, Node, Value, element_of, bytes_of, shallow, within_bounds, most_nodes}
 use Rattle.values.specs.Engine.Words.{part, origin_of, node_of, value_at}
 use Rattle.values.specs.Theorems.Extents.{length_part, get_d_part}
-use Rattle.values.specs.Theorems.WordLaws.{length_value}
+use Rattle.values.proofs.Theorems.WordLaws.{length_value}
 use Rattle.runs.specs.Grounds.{numbered_from, shown_line, view}
 use Rattle.runs.specs.Engine.Runs.{made_by, lookup_of}
 use Rattle.calls.specs.Engine.Parts.{word_line, view_lines, ViewRoom}

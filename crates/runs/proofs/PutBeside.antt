@@ -13,7 +13,7 @@ use Rattle.values.specs.Values.{Value, Lookup}
 use Rattle.values.specs.Standings.{Standing, merged}
 use Rattle.values.specs.Engine.Words.{part, value_at, merged_words}
 use Rattle.values.specs.Theorems.Extents.{length_part, frame_less}
-use Rattle.values.specs.Theorems.WordLaws.{value_frame, merged_length}
+use Rattle.values.proofs.Theorems.WordLaws.{value_frame, merged_length}
 use Rattle.runs.specs.declared.stop.Stop.{Stop}
 use Rattle.runs.specs.declared.slots.SlotWords.{SlotWords}
 use Rattle.runs.specs.Results.{Result, gives}

@@ -13,7 +13,7 @@ use Rattle.values.specs.Values.{Value, Lookup}
 use Rattle.values.specs.Standings.{Standing, untouched, all_over}
 use Rattle.values.specs.Engine.Words.{part, value_at}
 use Rattle.values.specs.Theorems.Extents.{length_part}
-use Rattle.values.specs.Theorems.WordLaws.{length_value, value_none}
+use Rattle.values.proofs.Theorems.WordLaws.{length_value, value_none}
 use Rattle.runs.specs.declared.slots.SlotWords.{SlotWords}
 use Rattle.runs.specs.Programs.{Transformation, bind}
 use Rattle.runs.specs.Reading.{no_entry}

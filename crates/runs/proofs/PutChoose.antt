@@ -11,7 +11,7 @@ use Rattle.lines.specs.Nodes.{Line}
 use Rattle.values.specs.Values.{Value, Lookup}
 use Rattle.values.specs.Standings.{Standing}
 use Rattle.values.specs.Engine.Words.{value_at}
-use Rattle.values.specs.Theorems.WordLaws.{value_frame}
+use Rattle.values.proofs.Theorems.WordLaws.{value_frame}
 use Rattle.runs.specs.declared.stop.Stop.{Stop}
 use Rattle.runs.specs.declared.stop.Tested.TheVariants as tested
 use Rattle.runs.specs.declared.slots.SlotWords.{SlotWords}

@@ -12,7 +12,7 @@ use Rattle.values.specs.Values.{Value, Lookup, items}
 use Rattle.values.specs.Standings.{Standing}
 use Rattle.values.specs.Engine.Words.{value_at, standings_at, FirstItem}
 use Rattle.values.specs.Theorems.Extents.{frame_less}
-use Rattle.values.specs.Theorems.WordLaws.{length_value, value_none, value_frame}
+use Rattle.values.proofs.Theorems.WordLaws.{length_value, value_none, value_frame}
 use Rattle.runs.specs.declared.stop.Stop.{Stop}
 use Rattle.runs.specs.declared.slots.SlotWords.{SlotWords}
 use Rattle.runs.specs.Results.{Result, gives}

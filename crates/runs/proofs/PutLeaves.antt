@@ -17,7 +17,7 @@ use Rattle.values.specs.Standings.{Standing, untouched, all_over}
 use Rattle.values.specs.Engine.Words.{part, value_at}
 use Rattle.values.specs.Theorems.Extents.{length_part, frame_less}
 use Rattle.values.specs.Theorems.Forests.{length_lowered}
-use Rattle.values.specs.Theorems.WordLaws.{length_value}
+use Rattle.values.proofs.Theorems.WordLaws.{length_value}
 use Rattle.runs.specs.declared.slots.SlotWords.{SlotWords}
 use Rattle.runs.specs.Programs.{Transformation, source, slot, contents}
 use Rattle.runs.specs.Reading.{no_entry}

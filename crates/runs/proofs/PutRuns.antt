@@ -10,7 +10,7 @@ use Rattle.lines.specs.Nodes.{Line}
 use Rattle.values.specs.Values.{Value}
 use Rattle.values.specs.Standings.{Standing}
 use Rattle.values.specs.Engine.Words.{part, value_at, standings_at, AllNamed}
-use Rattle.values.specs.Theorems.WordLaws.{length_value, value_frame}
+use Rattle.values.proofs.Theorems.WordLaws.{length_value, value_frame}
 use Rattle.runs.specs.declared.stop.Stop.{Stop}
 use Rattle.runs.specs.declared.stop.Run.{Run}
 use Rattle.runs.specs.declared.stop.Tested.{Tested}

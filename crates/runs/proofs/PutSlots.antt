@@ -14,7 +14,7 @@ use Rattle.values.specs.Values.{Value, among}
 use Rattle.values.specs.Standings.{Standing, untouched, all_over, merged}
 use Rattle.values.specs.Engine.Words.{Made, part, standings_at, AllNamed, merged_words}
 use Rattle.values.specs.Theorems.Extents.{length_part, put_other}
-use Rattle.values.specs.Theorems.WordLaws.{merged_length}
+use Rattle.values.proofs.Theorems.WordLaws.{merged_length}
 use Rattle.runs.specs.declared.slots.SlotWords.{SlotWords}
 use Rattle.runs.specs.PuttingBack.{SlotStandings, first_slot, rest_slots, merged_into}
 use Rattle.runs.specs.Engine.Runs.{slots_to, slots_at, bytes_to, Bound, marks_to, marks_at, NamedTo, merged_at}

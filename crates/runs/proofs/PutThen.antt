@@ -12,7 +12,7 @@ use Rattle.values.specs.Values.{Value, Lookup}
 use Rattle.values.specs.Standings.{Standing}
 use Rattle.values.specs.Engine.Words.{part, value_at}
 use Rattle.values.specs.Theorems.Extents.{length_part, frame_less}
-use Rattle.values.specs.Theorems.WordLaws.{value_frame}
+use Rattle.values.proofs.Theorems.WordLaws.{value_frame}
 use Rattle.runs.specs.declared.stop.Stop.{Stop}
 use Rattle.runs.specs.declared.slots.SlotWords.{SlotWords}
 use Rattle.runs.specs.Results.{gives}

@@ -15,7 +15,7 @@ use Rattle.values.specs.Standings.{Standing}
 use Rattle.values.specs.Engine.Words.{part, node_of, value_at, lowered_word}
 use Rattle.values.specs.Theorems.Extents.{length_part, frame_less}
 use Rattle.values.specs.Theorems.Forests.{length_raised}
-use Rattle.values.specs.Theorems.WordLaws.{length_value, value_cons, lowered_words}
+use Rattle.values.proofs.Theorems.WordLaws.{length_value, value_cons, lowered_words}
 use Rattle.runs.specs.declared.slots.SlotWords.{SlotWords}
 use Rattle.runs.specs.Results.{gives}
 use Rattle.runs.specs.Programs.{Transformation, within}

@@ -12,8 +12,8 @@ use Rattle.values.specs.Values.{Value}
 use Rattle.values.specs.Standings.{Standing, untouched, locked, all_over, merged}
 use Rattle.values.specs.Engine.Words.{part, standing_of, standings_at, Named, AllNamed, merged_words}
 use Rattle.values.specs.Theorems.Extents.{length_part, part_join, frame_part, put_other}
-use Rattle.values.specs.Theorems.MergeLaws.{merge_comm}
-use Rattle.values.specs.Theorems.WordLaws.{standings_join, length_standings, merged_words_standings, merged_length}
+use Rattle.values.proofs.Theorems.MergeLaws.{merge_comm}
+use Rattle.values.proofs.Theorems.WordLaws.{standings_join, length_standings, merged_words_standings, merged_length}
 
 -- ## Words that name their texts
 

@@ -10,7 +10,7 @@ use Rattle.lines.specs.Entries.{Entry}
 use Rattle.values.specs.Values.{Value, under, onward, items}
 use Rattle.values.specs.Engine.Words.{Made, node_of, value_at, FirstItem}
 use Rattle.values.specs.Theorems.Extents.{frame_less}
-use Rattle.values.specs.Theorems.WordLaws.{length_value, value_none, value_join, value_frame}
+use Rattle.values.proofs.Theorems.WordLaws.{length_value, value_none, value_join, value_frame}
 use Rattle.values.specs.Theorems.Items.{items_cons, under_onward}
 use Rattle.runs.specs.declared.slots.SlotWords.{SlotWords}
 use Rattle.runs.specs.declared.stop.Stop.{Stop}

@@ -12,7 +12,7 @@ use Rattle.lines.specs.Entries.{Entry, slot_of, text_of}
 use Rattle.lines.specs.Engine.Starts.{entry_at, entries_of}
 use Rattle.values.specs.Values.{program}
 use Rattle.values.specs.Engine.Words.{Made, origin_of, node_of, value_at}
-use Rattle.values.specs.Theorems.WordLaws.{value_none}
+use Rattle.values.proofs.Theorems.WordLaws.{value_none}
 use Rattle.runs.specs.declared.slots.SlotWords.{SlotWords}
 use Rattle.runs.specs.declared.stop.Run.{Run}
 use Rattle.runs.specs.declared.stop.Run.TheVariants as ran

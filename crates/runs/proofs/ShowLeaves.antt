@@ -12,7 +12,7 @@ use Rattle.lines.specs.Theorems.PutAt.{put_frame, put_part}
 use Rattle.values.specs.Values.{Value, Lookup, lowered}
 use Rattle.values.specs.Engine.Words.{part, Made, node_of, value_at, lowered_word}
 use Rattle.values.specs.Theorems.Extents.{length_part}
-use Rattle.values.specs.Theorems.WordLaws.{lowered_words}
+use Rattle.values.proofs.Theorems.WordLaws.{lowered_words}
 use Rattle.runs.specs.declared.stop.Stop.TheVariants.{Source}
 use Rattle.runs.specs.declared.stop.Run.TheVariants as ran
 use Rattle.runs.specs.Results.{gives}

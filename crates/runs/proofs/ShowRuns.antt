@@ -13,7 +13,7 @@ use Rattle.lines.specs.Writing.{put_at}
 use Rattle.values.specs.Values.{Value}
 use Rattle.values.specs.Engine.Words.{part, value_at}
 use Rattle.values.specs.Theorems.Extents.{frame_less}
-use Rattle.values.specs.Theorems.WordLaws.{length_value, value_none, value_join, value_frame}
+use Rattle.values.proofs.Theorems.WordLaws.{length_value, value_none, value_join, value_frame}
 use Rattle.runs.specs.declared.slots.SlotWords.{SlotWords}
 use Rattle.runs.specs.declared.stop.Stop.{Stop}
 use Rattle.runs.specs.declared.stop.Stop.TheVariants.{Size}

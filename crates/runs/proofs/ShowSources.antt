@@ -8,7 +8,7 @@ use lib.ListN.{length, get_or}
 use borrow.Author.Tests.{not-true, not-false}
 use Rattle.values.specs.Values.{Node, Value, Lookup, element_of, no_top}
 use Rattle.values.specs.Engine.Words.{Made, node_of, value_at}
-use Rattle.values.specs.Theorems.WordLaws.{length_value, value_none, value_cons}
+use Rattle.values.proofs.Theorems.WordLaws.{length_value, value_none, value_cons}
 use Rattle.lines.specs.Theorems.Bools.{and_left, and_right}
 use Rattle.runs.specs.declared.stop.Stop.TheVariants.{Source}
 use Rattle.runs.specs.Results.{gives, stops}

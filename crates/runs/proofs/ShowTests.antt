@@ -10,7 +10,7 @@ use Rattle.lines.specs.Nodes.{Line}
 use Rattle.lines.specs.Entries.{Entry}
 use Rattle.values.specs.Values.{bytes_of}
 use Rattle.values.specs.Engine.Words.{node_of, value_at}
-use Rattle.values.specs.Theorems.WordLaws.{value_none}
+use Rattle.values.proofs.Theorems.WordLaws.{value_none}
 use Rattle.runs.specs.declared.slots.SlotWords.{SlotWords}
 use Rattle.runs.specs.declared.stop.Stop.{Stop}
 use Rattle.runs.specs.declared.stop.Stop.TheVariants.{Source}

@@ -16,7 +16,7 @@ use Rattle.lines.specs.Theorems.PutAt.{length_put, put_frame}
 use Rattle.values.specs.Values.{Node, Value, lowered, raised, shallow, within_bounds, most_depth}
 use Rattle.values.specs.Engine.Words.{part, Made, node_of, value_at, lowered_word, raised_word}
 use Rattle.values.specs.Theorems.Extents.{length_part, frame_less}
-use Rattle.values.specs.Theorems.WordLaws.{length_value, value_cons, raised_words}
+use Rattle.values.proofs.Theorems.WordLaws.{length_value, value_cons, raised_words}
 use Rattle.values.specs.Theorems.Forests.{length_raised}
 use Rattle.runs.specs.declared.slots.SlotWords.{SlotWords}
 use Rattle.runs.specs.declared.stop.Stop.{Stop}

@@ -12,7 +12,7 @@ use lib.Seq.{get_or-set_same, get_or-set_other}
 use borrow.Author.Tests.{leb-true, eq-eqb, ne_eqb}
 use Rattle.values.specs.Values.{Value, among}
 use Rattle.values.specs.Engine.Words.{Made, value_at}
-use Rattle.values.specs.Theorems.WordLaws.{value_frame}
+use Rattle.values.proofs.Theorems.WordLaws.{value_frame}
 use Rattle.runs.specs.declared.slots.SlotWords.{SlotWords}
 use Rattle.runs.specs.Reading.{Room, inside_bind}
 use Rattle.runs.specs.Showing.{Slots, value_in}

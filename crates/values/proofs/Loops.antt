@@ -12,7 +12,7 @@ use Rattle.lines.specs.Theorems.Lists.{map_at}
 use Rattle.values.specs.Values.{Value, under, shallow}
 use Rattle.values.specs.Engine.Words.{Made, part, node_of, value_at, merged_word, merged_words}
 use Rattle.values.specs.Theorems.Extents.{length_part, get_d_part}
-use Rattle.values.specs.Theorems.WordLaws.{value_cons, value_none, top_word}
+use Rattle.values.proofs.Theorems.WordLaws.{value_cons, value_none, top_word}
 
 -- a source before the place or behind it, while its word i is read
 pub apart : (from to len i : ℕ) → (to ≤ from) ⊎ (from + len ≤ to) → i < len → (from + i < to) ⊎ (to + i ≤ from + i)

@@ -12,7 +12,7 @@ use Rattle.lines.specs.Theorems.Bools.{and_left, and_right, and_both, or_other}
 use Rattle.lines.specs.Theorems.SameTexts.{same_text_sound, same_text_refl}
 use Rattle.values.specs.Values.{among}
 use Rattle.values.specs.Standings.{is_edit}
-use Rattle.values.specs.Theorems.Copies.{bool_cases}
+use Rattle.values.proofs.Theorems.Copies.{bool_cases}
 use Rattle.calls.specs.Demands.{EditedLine, SameEdit, Acceptable, Clashes, differ, compare}
 use Rattle.calls.specs.Theorems.EditedLines.{edited_edit, edit_edited}
 

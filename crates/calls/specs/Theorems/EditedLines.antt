@@ -10,7 +10,7 @@ use Rattle.lines.specs.Theorems.Bools.{never}
 use Rattle.lines.proofs.Theorems.CountedMarks.{counted_written}
 use Rattle.lines.specs.Theorems.SameTexts.{unlike_texts, told_unlike}
 use Rattle.values.specs.Standings.{changed, deleted, sort, says, brings, is_edit, hands_back}
-use Rattle.values.specs.Theorems.Edits.{by_mark}
+use Rattle.values.proofs.Theorems.Edits.{by_mark}
 use Rattle.calls.specs.Demands.{IsEdited, SameEdit, with_edit}
 
 -- ## Its mark counts as written

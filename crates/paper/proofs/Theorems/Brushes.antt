@@ -8,8 +8,8 @@ use Rattle.lines.specs.Texts.{same_text}
 use Rattle.lines.specs.Theorems.SameTexts.{same_text_refl}
 use Rattle.values.specs.Values.{Origin, master, program, Lookup, bytes_of, is_from}
 use Rattle.values.specs.Standings.{Standing, untouched, locked, changed, deleted, clash, sort, new_text, is_untouched, is_clash, same_standing, ◌⋓◌, first_of, rest_of, merged, gathered}
-use Rattle.values.specs.Theorems.MergeLaws.{clash_is, clash_left, unit_left, merge_comm, merge_swap}
-use Rattle.values.specs.Theorems.Gathering.{only, merged_first, merged_rest, drop_rest, gathered_cut, gathered_take}
+use Rattle.values.proofs.Theorems.MergeLaws.{clash_is, clash_left, unit_left, merge_comm, merge_swap}
+use Rattle.values.proofs.Theorems.Gathering.{only, merged_first, merged_rest, drop_rest, gathered_cut, gathered_take}
 use Rattle.runs.specs.PuttingBack.{SlotStandings, first_slot, rest_slots}
 use Rattle.paper.specs.Data.{Updating, ori, non, mod', del, ElementUpdating, ori_e, del_e, src, Sequence, none, str, elt, fail, got, same_from}
 use Rattle.paper.specs.Operators.{mg_string, mg_element, mg}

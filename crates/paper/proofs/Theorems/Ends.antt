@@ -6,8 +6,8 @@ use mathlib.Core.List.{List, [], ◌∷◌, ◌++◌}
 use Rattle.lines.specs.Theorems.Bools.{or_left, or_right}
 use Rattle.values.specs.Values.{Origin, Lookup, bytes_of, is_from, master_number, among}
 use Rattle.values.specs.Standings.{Standing, locked, is_clash, ◌⋓◌, merged, gathered}
-use Rattle.values.specs.Theorems.MergeLaws.{merge_comm, merge_assoc, merge_left_comm}
-use Rattle.values.specs.Theorems.Gathering.{only}
+use Rattle.values.proofs.Theorems.MergeLaws.{merge_comm, merge_assoc, merge_left_comm}
+use Rattle.values.proofs.Theorems.Gathering.{only}
 use Rattle.runs.specs.Results.{gives}
 use Rattle.runs.specs.Showing.{Shown, Answer}
 use Rattle.runs.specs.PuttingBack.{SlotStandings, first_slot, rest_slots, merged_into, gathered_slots, Back}

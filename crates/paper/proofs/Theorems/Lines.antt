@@ -7,7 +7,7 @@ use Rattle.std.proofs.Math.ListN.{drop}
 use Rattle.lines.specs.Nodes.{Line, is_element, no_line}
 use Rattle.values.specs.Values.{Origin, master, program, Value, Lookup, element_of, bytes_of}
 use Rattle.values.specs.Standings.{Standing, first_of, rest_of}
-use Rattle.values.specs.Theorems.Gathering.{drop_rest}
+use Rattle.values.proofs.Theorems.Gathering.{drop_rest}
 use Rattle.runs.specs.Grounds.{Numbered, Ground, line_of, lookup_in, shown_line, view}
 use Rattle.runs.specs.Theorems.ViewLines.{shown_line_depth}
 use Rattle.paper.specs.Data.{Updating, ori, non, mod', del, ElementUpdating, From, Sequence, none, str, elt, ◌⧺◌}

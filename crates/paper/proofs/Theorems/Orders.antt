@@ -12,7 +12,7 @@ use Rattle.lines.specs.Views.{same_line, difference_from}
 use Rattle.lines.specs.Theorems.KindRules.{rule_mark, element_mark}
 use Rattle.values.specs.Values.{Origin, master, program, Node, Value, element_of, most_nodes}
 use Rattle.values.specs.Standings.{Standing, hands_back}
-use Rattle.values.specs.Theorems.Edits.{hands_back_head}
+use Rattle.values.proofs.Theorems.Edits.{hands_back_head}
 use Rattle.values.specs.Theorems.Forests.{Walk, Forest}
 use Rattle.runs.specs.Grounds.{numbered_from, lookup_in, whole, one_master, shown_line, view, lines_in, handed_back}
 use Rattle.runs.specs.Theorems.Bounds.{master_good}

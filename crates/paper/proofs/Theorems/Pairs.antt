@@ -6,7 +6,7 @@ use mathlib.Core.List.{List, ◌++◌}
 use Prim.Native.Nat.{ℕ}
 use Rattle.values.specs.Values.{Value, Lookup}
 use Rattle.values.specs.Standings.{Standing, is_clash, ◌⋓◌, merged, gathered}
-use Rattle.values.specs.Theorems.Gathering.{gathered_take}
+use Rattle.values.proofs.Theorems.Gathering.{gathered_take}
 use Rattle.runs.specs.declared.stop.Stop.{Stop}
 use Rattle.runs.specs.Results.{Result, gives}
 use Rattle.runs.specs.Showing.{Shown, Answer}

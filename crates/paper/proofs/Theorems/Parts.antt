@@ -3,8 +3,8 @@ use Rattle.std.specs.Prelude.{◌≡◌, refl, List, [], ◌∷◌, ◌++◌, �
 use Rattle.std.proofs.Common.{sym, ap, ◌∙◌}
 use Rattle.values.specs.Values.{Value, Lookup}
 use Rattle.values.specs.Standings.{Standing, ◌⋓◌, rest_of, gathered}
-use Rattle.values.specs.Theorems.MergeLaws.{merge_comm, merge_assoc, merge_left_comm}
-use Rattle.values.specs.Theorems.Gathering.{gathered_cut}
+use Rattle.values.proofs.Theorems.MergeLaws.{merge_comm, merge_assoc, merge_left_comm}
+use Rattle.values.proofs.Theorems.Gathering.{gathered_cut}
 use Rattle.runs.specs.Showing.{Shown}
 use Rattle.runs.specs.PuttingBack.{SlotStandings, gathered_slots}
 use Rattle.runs.specs.Theorems.Inversion.{both}

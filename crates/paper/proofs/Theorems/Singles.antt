@@ -7,8 +7,8 @@ use mathlib.Core.List.{List, [], ◌∷◌, ◌++◌, append-nil}
 use Rattle.lines.specs.Theorems.SameTexts.{same_text_refl}
 use Rattle.values.specs.Values.{Origin, Value, Lookup, bytes_of, is_from, among, lowered, raised}
 use Rattle.values.specs.Standings.{Standing, untouched, is_clash, ◌⋓◌, first_of, rest_of, all_over, gathered}
-use Rattle.values.specs.Theorems.MergeLaws.{unit_left, unit_right, merge_assoc}
-use Rattle.values.specs.Theorems.Gathering.{only, gathered_untouched, gathered_raised}
+use Rattle.values.proofs.Theorems.MergeLaws.{unit_left, unit_right, merge_assoc}
+use Rattle.values.proofs.Theorems.Gathering.{only, gathered_untouched, gathered_raised}
 use Rattle.runs.specs.declared.stop.Stop.TheVariants.{Source}
 use Rattle.runs.specs.Results.{gives}
 use Rattle.runs.specs.Showing.{value_in, Shown}

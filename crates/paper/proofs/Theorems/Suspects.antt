@@ -11,9 +11,9 @@ use Rattle.lines.specs.Nodes.{Line, deleted_mark, line_at}
 use Rattle.values.specs.Values.{Origin, master, program, Value, Lookup, bytes_of, is_from, among}
 use Rattle.values.specs.Standings.{Standing, sort, is_clash, ◌⋓◌, first_of, rest_of, gathered, brings}
 use Rattle.lines.specs.Theorems.Bools.{never, and_parts, neither, or_right}
-use Rattle.values.specs.Theorems.Gathering.{only, drop_rest}
-use Rattle.values.specs.Theorems.Copies.{is_copy, standing_at}
-use Rattle.values.specs.Theorems.Edits.{by_mark}
+use Rattle.values.proofs.Theorems.Gathering.{only, drop_rest}
+use Rattle.values.proofs.Theorems.Copies.{is_copy, standing_at}
+use Rattle.values.proofs.Theorems.Edits.{by_mark}
 use Rattle.runs.specs.Programs.{Transformation}
 use Rattle.runs.specs.Showing.{Shown}
 use Rattle.runs.specs.PuttingBack.{put_back}

@@ -7,8 +7,8 @@ use Prim.Native.Nat.{ℕ}
 use Rattle.lines.specs.Texts.{same_text}
 use Rattle.values.specs.Values.{Origin, master, program, Node, Value, Lookup, element_of, bytes_of, is_from, master_number}
 use Rattle.values.specs.Standings.{Standing, untouched, locked, sort, is_clash, ◌⋓◌, first_of, all_over, merged, gathered}
-use Rattle.values.specs.Theorems.MergeLaws.{unit_right, merge_comm, merge_assoc, merge_left_comm}
-use Rattle.values.specs.Theorems.Gathering.{only, merged_first}
+use Rattle.values.proofs.Theorems.MergeLaws.{unit_right, merge_comm, merge_assoc, merge_left_comm}
+use Rattle.values.proofs.Theorems.Gathering.{only, merged_first}
 use Rattle.runs.specs.declared.stop.Stop.{Stop}
 use Rattle.runs.specs.declared.stop.Stop.TheVariants.{Source}
 use Rattle.runs.specs.Results.{Result, gives}

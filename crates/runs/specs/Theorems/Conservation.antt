@@ -10,9 +10,9 @@ use Rattle.lines.specs.Texts.{same_text}
 use Rattle.lines.specs.Theorems.Bools.{or_unit, or_assoc}
 use Rattle.values.specs.Values.{Origin, master, program, Node, Value, Lookup, element_of, bytes_of, is_from, master_number, among, made, lowered, raised, items, joined}
 use Rattle.values.specs.Standings.{Standing, untouched, locked, ◌⋓◌, first_of, rest_of, all_over, merged, gathered}
-use Rattle.values.specs.Theorems.MergeLaws.{unit_left, unit_right, merge_idem, merge_comm, merge_assoc, merge_left_comm}
-use Rattle.values.specs.Theorems.Gathering.{only, only_untouched, gathered_untouched, gathered_merged, gathered_cut}
-use Rattle.values.specs.Theorems.Gathering.{gathered_take, gathered_fitted, gathered_lowered, gathered_raised}
+use Rattle.values.proofs.Theorems.MergeLaws.{unit_left, unit_right, merge_idem, merge_comm, merge_assoc, merge_left_comm}
+use Rattle.values.proofs.Theorems.Gathering.{only, only_untouched, gathered_untouched, gathered_merged, gathered_cut}
+use Rattle.values.proofs.Theorems.Gathering.{gathered_take, gathered_fitted, gathered_lowered, gathered_raised}
 use Rattle.values.specs.Theorems.Items.{joined_items}
 use Rattle.runs.specs.declared.stop.Stop.{Stop}
 use Rattle.runs.specs.Results.{Result, gives}

@@ -6,9 +6,9 @@ use Rattle.lines.specs.Nodes.{Line, untouched_mark, line_at, no_line}
 use Rattle.lines.specs.Views.{mark_counted}
 use Rattle.values.specs.Values.{Origin, master, program, Value, among}
 use Rattle.values.specs.Standings.{Standing, locked, sort, is_clash, is_edit}
-use Rattle.values.specs.Theorems.Gathering.{only}
-use Rattle.values.specs.Theorems.Copies.{Silent}
-use Rattle.values.specs.Theorems.Edits.{hands_back_lock}
+use Rattle.values.proofs.Theorems.Gathering.{only}
+use Rattle.values.proofs.Theorems.Copies.{Silent}
+use Rattle.values.proofs.Theorems.Edits.{hands_back_lock}
 use Rattle.runs.specs.Results.{gives}
 use Rattle.runs.specs.Programs.{Transformation}
 use Rattle.runs.specs.Showing.{Shown}

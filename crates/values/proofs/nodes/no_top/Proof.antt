@@ -4,7 +4,7 @@ use lib.Dec.{eqb}
 use borrow.Author.Rules.{rules}
 use Rattle.values.specs.Engine.Words.{value_at}
 use Rattle.values.specs.Theorems.Items.{all_under}
-use Rattle.values.specs.Theorems.WordLaws.{length_value}
+use Rattle.values.proofs.Theorems.WordLaws.{length_value}
 use Rattle.values.proofs.nodes.no_top.Statement.{statement}
 use Rattle.values.proofs.nodes.no_top.Tie as tie
 

@@ -8,7 +8,7 @@ use borrow.Author.Rules.{rules}
 use Rattle.lines.specs.Theorems.PutAt.{Putting, putting_starts, putting_goes_on, putting_ends, putting_reads}
 use Rattle.values.specs.Theorems.Extents.{length_part}
 use Rattle.values.specs.Engine.Words.{part, merged_word, merged_words}
-use Rattle.values.specs.Theorems.WordLaws.{merged_length}
+use Rattle.values.proofs.Theorems.WordLaws.{merged_length}
 use Rattle.values.proofs.Loops.{merged_at}
 use Rattle.values.proofs.standings.merge_from.Statement.{statement}
 use Rattle.values.proofs.standings.merge_from.Tie as tie

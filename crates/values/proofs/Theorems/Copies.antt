@@ -7,8 +7,8 @@ use Rattle.std.proofs.Math.Logic.{inl, inr}
 use Prim.Native.Nat.{ℕ, zero, suc}
 use Rattle.values.specs.Values.{Value, is_from}
 use Rattle.values.specs.Standings.{Standing, untouched, is_untouched, is_clash, ◌⋓◌, first_of, rest_of, gathered}
-use Rattle.values.specs.Theorems.MergeLaws.{by_untouched, unit_left, unit_right, merge_idem, merge_comm, merge_keeps, no_clash_right}
-use Rattle.values.specs.Theorems.Gathering.{only}
+use Rattle.values.proofs.Theorems.MergeLaws.{by_untouched, unit_left, unit_right, merge_idem, merge_comm, merge_keeps, no_clash_right}
+use Rattle.values.proofs.Theorems.Gathering.{only}
 
 -- whether the value's node i is a copy of the master's node n
 unfoldable pub is_copy : ℕ → Value → ℕ → Bool

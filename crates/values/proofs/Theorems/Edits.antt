@@ -5,7 +5,7 @@ use Rattle.lines.specs.Nodes.{Line, changed_mark, deleted_mark}
 use Rattle.lines.specs.Texts.{same_text}
 use Rattle.lines.proofs.Theorems.CountedMarks.{by_counted}
 use Rattle.values.specs.Standings.{Standing, untouched, locked, changed, deleted, clash, sort, is_untouched, is_clash, same_standing, says, brings, is_edit, hands_back}
-use Rattle.values.specs.Theorems.Gathering.{only}
+use Rattle.values.proofs.Theorems.Gathering.{only}
 
 -- ## What a line brings
 

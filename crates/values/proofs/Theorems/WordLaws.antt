@@ -16,7 +16,7 @@ use Rattle.lines.specs.Theorems.SameTexts.{same_text_comm}
 use Rattle.values.specs.Values.{Node, Value, is_top, lowered, raised, shallow}
 use Rattle.values.specs.Standings.{Standing, untouched, locked, changed, deleted, clash, sort, new_text, is_untouched, same_standing, ◌⋓◌, merged}
 use Rattle.values.specs.Engine.Words.{part, Made, origin_of, node_of, value_at, lowered_word, raised_word, standing_of, standings_at, Named, AllNamed, merged_word, merged_words}
-use Rattle.values.specs.Theorems.MergeLaws.{same_refl}
+use Rattle.values.proofs.Theorems.MergeLaws.{same_refl}
 use Rattle.values.specs.Theorems.Extents.{length_part, part_join, part_cons, frame_part}
 
 map_append : {A B : Type 0} (f : A → B) (k l : List A) → map f (k ++ l) ≡ map f k ++ map f l

@@ -4,7 +4,7 @@ use Rattle.std.proofs.Math.Path.{refl, sym}
 use mathlib.Core.List.{List, [], ◌∷◌, ◌++◌}
 use Rattle.values.specs.Values.{Value, is_from, lowered, raised}
 use Rattle.values.specs.Standings.{Standing, untouched, ◌⋓◌, first_of, rest_of, fitted, all_over, merged, gathered}
-use Rattle.values.specs.Theorems.MergeLaws.{unit_left, unit_right, merge_assoc, merge_swap}
+use Rattle.values.proofs.Theorems.MergeLaws.{unit_left, unit_right, merge_assoc, merge_swap}
 
 -- a part that counts only if b holds
 abbrev pub only : Bool → Standing → Standing
