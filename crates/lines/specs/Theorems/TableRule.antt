@@ -1,5 +1,5 @@
 -- The table has a row for exactly the bytes that are an operation: one test, computed over the whole table.
-use Rattle.std.specs.Prelude.{◌≡◌, refl, Bool, true, false, cond, ◌&&◌, List, ℕ, ◌≤◌, ltb}
+use Rattle.std.specs.Prelude.{◌≡◌, refl, Bool, true, false, List, ℕ, ◌≤◌, ltb}
 use Rattle.std.proofs.Common.{◌∙◌, ap, arith, ltb-true, ltb-false, le-leb}
 use Rattle.std.specs.Bool.{beq}
 use Rattle.std.proofs.Math.ListN.{get_or-eq_default}

@@ -1,13 +1,13 @@
 -- Whole numbers: exactly the texts of the form have one, minus zero is zero, leading zeros change nothing, and none is large.
-use Rattle.std.specs.Prelude.{◌≡◌, refl, Bool, true, false, cond, List, [], ◌∷◌, ℕ, zero, suc, ◌+◌, ◌*◌, ◌-◌, ◌≤◌, ◌<◌, leb, eqb, ℤ, pos, negsuc, neg_ℤ, nat_abs, length}
-use Rattle.std.proofs.Common.{sym, ap, ◌∙◌, subst, le_trans, arith}
+use Rattle.std.specs.Prelude.{◌≡◌, refl, Bool, true, false, List, [], ◌∷◌, ℕ, zero, suc, ◌+◌, ◌*◌, ◌-◌, ◌≤◌, ◌<◌, leb, ℤ, pos, neg_ℤ, nat_abs, length}
+use Rattle.std.proofs.Common.{sym, ap, ◌∙◌, le_trans, arith}
 use borrow.Author.Tests.{leb-true, le-leb, ne_eqb}
 use Rattle.lines.specs.declared.numbers.Whole.{Whole}
 use Rattle.lines.specs.declared.numbers.Whole.TheVariants.{Number, Missing}
 use Rattle.lines.specs.Hex.{between}
 use Rattle.lines.specs.Nodes.{all_of}
 use Rattle.lines.specs.Numbers.{minus, has_minus, digits_in, are_digits, digits_value, signed, whole_number}
-use Rattle.lines.specs.Theorems.Bools.{never, and_left, and_right, and_parts, and_both}
+use Rattle.lines.specs.Theorems.Bools.{never, and_left, and_right, and_parts}
 
 -- ## Digits
 

@@ -1,6 +1,6 @@
 -- From byte `j` on the value so far becomes that of all the digits, which nothing on the way exceeds.
 use mathlib.Core.Path.{◌≡◌, refl, sym, ◌∙◌}
-use mathlib.Core.Bool.{Bool, true}
+use mathlib.Core.Bool.{true}
 use mathlib.Core.List.{List}
 use Prim.Native.Nat.{ℕ, ◌+◌, ◌*◌, ◌-◌, ◌≤◌, ◌<◌}
 use native.Mathlib.Omega.{arith}
@@ -8,7 +8,7 @@ use lib.ListN.{length, get_or, drop, drop_of_length-le}
 use borrow.Author.Rules.{rules}
 use Rattle.lines.specs.Hex.{between}
 use Rattle.lines.specs.Nodes.{all_of}
-use Rattle.lines.specs.Numbers.{are_digits, digits_value}
+use Rattle.lines.specs.Numbers.{digits_value}
 use Rattle.lines.specs.Engine.Starts.{text_at}
 use Rattle.lines.specs.Theorems.Lists.{drop_one}
 use Rattle.lines.specs.Theorems.WholeNumbers.{digits_parts, first_digit, more_digits, digits_grow, digits_most}

@@ -2,7 +2,6 @@
 use mathlib.Core.Path.{◌∙◌, ap}
 use Prim.Native.Nat.{ℕ}
 use lib.Dec.{eqb}
-use borrow.Author.Rules.{rules}
 use Rattle.lines.specs.Nodes.{is_element}
 use Rattle.runs.proofs.Lookups.{element_line, element_no_line, element_entry, element_no_entry}
 use Rattle.runs.proofs.lookup.is_element_word.Goals as goal

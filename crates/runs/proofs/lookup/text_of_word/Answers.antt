@@ -2,7 +2,6 @@
 use mathlib.Core.Path.{sym, ◌∙◌, ap}
 use Prim.Native.Nat.{◌-◌, ◌%◌}
 use lib.ListN.{get_or}
-use borrow.Author.Rules.{rules}
 use Rattle.lines.specs.Engine.Starts.{operand_at, text_at}
 use Rattle.runs.proofs.Lookups.{shape_is, operand_text, text_line, text_no_line, text_entry, text_no_entry}
 use Rattle.runs.proofs.lookup.text_of_word.Goals as goal

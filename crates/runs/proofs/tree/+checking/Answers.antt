@@ -1,16 +1,12 @@
 -- What each member leaves where it returns: one entry is judged test by test, and what its sub-entries leave is stored.
-use mathlib.Core.Path.{◌≡◌, sym, ◌∙◌, ap}
-use mathlib.Core.Bool.{true, false}
-use Prim.Native.Nat.{ℕ, ◌+◌, ◌-◌, ◌<◌}
+use mathlib.Core.Path.{sym, ◌∙◌, ap}
 use native.Mathlib.Omega.{arith}
-use lib.ListN.{length, length-map}
-use borrow.Author.Tests.{not-true, not-false}
+use lib.ListN.{length-map}
 use Rattle.lines.specs.Entries.{row_of}
 use Rattle.lines.specs.Engine.Starts.{entries_of}
 use Rattle.runs.specs.Engine.Checking.{room_of}
-use Rattle.runs.specs.Engine.Ends.{end_below, end_at}
-use Rattle.runs.proofs.TreeCheckEnds.{fault_here, fault_below, stored, none_below, one_below, two_below, sized_still, choice_fault, choice_then, two_fault, two_then}
-use Rattle.runs.proofs.TreeCheckEntries.{Goes, no_level, past_entries, entry_goes, three_at_most}
+use Rattle.runs.proofs.TreeCheckEnds.{fault_here, fault_below, stored, none_below, one_below, two_below, choice_fault, choice_then, two_fault, two_then}
+use Rattle.runs.proofs.TreeCheckEntries.{no_level, past_entries, entry_goes, three_at_most}
 use Rattle.lines.specs.declared.table.Row.{Row}
 use Rattle.runs.proofs.tree.+checking.Goals as goal
 

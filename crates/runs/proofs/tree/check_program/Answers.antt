@@ -1,7 +1,6 @@
 -- What the check of the tree leaves decides, and whether lines are left over.
 use native.Mathlib.Omega.{arith}
 use lib.ListN.{length-map}
-use borrow.Author.Rules.{rules}
 use Rattle.runs.specs.Engine.Checking.{room_of}
 use Rattle.runs.proofs.TreeCheckWhole.{whole_fault, whole_left, whole_ended}
 use Rattle.runs.proofs.tree.check_program.Goals as goal

@@ -1,6 +1,5 @@
 -- After `i` nodes the lines of those that stay stand at the front.
 use Prim.Native.Nat.{◌-◌}
-use native.Mathlib.Omega.{arith}
 use lib.ListN.{length}
 use borrow.Author.Rules.{rules}
 use Rattle.lines.specs.Engine.Starts.{lines_of}

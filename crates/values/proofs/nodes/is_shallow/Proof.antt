@@ -3,7 +3,7 @@ use mathlib.Core.Path.{◌≡◌, sym, ◌∙◌, ap}
 use Prim.Native.Nat.{◌+◌, ◌-◌, ◌≤◌}
 use native.Mathlib.Omega.{arith}
 use lib.ListN.{get_or}
-use Rattle.values.specs.Values.{made, shallow}
+use Rattle.values.specs.Values.{shallow}
 use Rattle.values.specs.Engine.Words.{Made, value_at}
 use Rattle.values.proofs.Loops.{rest_all, rest_none, rest_cons, deep_here, deep_later, deep_none}
 use Rattle.values.proofs.nodes.is_shallow.Statement.{statement}
