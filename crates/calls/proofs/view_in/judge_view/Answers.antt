@@ -30,7 +30,8 @@ returns-in-Fault c =
 
 pub refuse-requires-in-Fault-marked : goal.refuse-requires-in-Fault-marked
 refuse-requires-in-Fault-marked c =
-    (marked c.scan_lines-scanned.ensures _ c.in-Lines.is _ c.difference-differs.ensures c.in-Fine.is c.program_mark-marked.ensures).place _ c.in-Fault-marked.is
+    let searched = marked c.scan_lines-scanned.ensures _ c.in-Lines.is _ c.difference-differs.ensures c.in-Fine.is c.program_mark-marked.ensures in
+    searched.place _ c.in-Fault-marked.is
 
 pub returns-in-Fault-marked : goal.returns-in-Fault-marked
 returns-in-Fault-marked c =
@@ -39,4 +40,5 @@ returns-in-Fault-marked c =
 
 pub returns-in-Fine-marked : goal.returns-in-Fine-marked
 returns-in-Fine-marked c =
-    (marked c.scan_lines-scanned.ensures _ c.in-Lines.is _ c.difference-differs.ensures c.in-Fine.is c.program_mark-marked.ensures).goes c.in-Fine-marked.is
+    let searched = marked c.scan_lines-scanned.ensures _ c.in-Lines.is _ c.difference-differs.ensures c.in-Fine.is c.program_mark-marked.ensures in
+    searched.goes c.in-Fine-marked.is

@@ -3,6 +3,7 @@ use mathlib.Core.Path.{◌≡◌}
 use mathlib.Core.List.{List}
 use Prim.Native.Nat.{ℕ}
 use Rattle.lines.specs.declared.write.Head.{Head}
+use Rattle.lines.specs.Nodes.{Line}
 use Rattle.lines.specs.Hex.{hex_value}
 use Rattle.lines.specs.Theorems.WritingLines.{room_as, written_as}
 use Rattle.lines.specs.Engine.Starts.{lines_of, entries_of, pair_at, bytes_from, text_at}
@@ -16,36 +17,41 @@ use Rattle.calls.specs.Engine.Parts.{word_line}
 use Rattle.calls.proofs.WordLines.{word_line_bytes}
 use Rattle.calls.proofs.view_out.write_word.Goals as goal
 
--- the word's line: the head found for it, and the text at the place found for it
 module _ (program entries master nodes : List ℕ) (word : ℕ) where
-  line : {head : Head} {place t : Text}
-      → headed head (word_line (entries_of program entries) (lines_of master nodes) word).text ≡ word_line (entries_of program entries) (lines_of master nodes) word
+  abbrev wanted : Line
+  wanted = word_line (entries_of program entries) (lines_of master nodes) word
+
+  -- the head found for the word and the text at the place found for it make its line
+  wanted_by : {head : Head} {place t : Text} → headed head wanted.text ≡ wanted
       → text_in program master place ≡ bytes_of (lookup_of (lines_of master nodes)) (node_of (made_by (entries_of program entries)) word).origin
-      → place ≡ t → headed head (text_in program master t) ≡ word_line (entries_of program entries) (lines_of master nodes) word
-  line h text e = word_line_bytes (entries_of program entries) (lines_of master nodes) word h (rw e at text)
+      → place ≡ t → headed head (text_in program master t) ≡ wanted
+  wanted_by found text e = word_line_bytes (entries_of program entries) (lines_of master nodes) word found (rw e at text)
 
 pub write_line-requires : goal.write_line-requires
 write_line-requires c =
-    room_as (line _ _ c.args.master.now _ _ c.head_of-head.ensures (c.text_of_word-text.ensures _) c.in-Master.is) c.args.pos c.requires.word_in_bounds
+    let line = wanted_by _ _ c.args.master.now _ _ c.head_of-head.ensures (c.text_of_word-text.ensures _) c.in-Master.is in
+    room_as line c.args.pos c.requires.word_in_bounds
 
 pub write_line-requires-in-Program : goal.write_line-requires-in-Program
 write_line-requires-in-Program c =
-    room_as (line _ _ c.args.master.now _ _ c.head_of-head.ensures (c.text_of_word-text.ensures _) c.in-Program.is) c.args.pos c.requires.word_in_bounds
+    let line = wanted_by _ _ c.args.master.now _ _ c.head_of-head.ensures (c.text_of_word-text.ensures _) c.in-Program.is in
+    room_as line c.args.pos c.requires.word_in_bounds
 
 pub write_line-requires-in-Missing : goal.write_line-requires-in-Missing
 unfolding text_at pair_at hex_value bytes_from
 write_line-requires-in-Missing c =
-    room_as (line _ _ c.args.master.now _ _ c.head_of-head.ensures (c.text_of_word-text.ensures _) c.in-Missing.is) c.args.pos c.requires.word_in_bounds
+    let line = wanted_by _ _ c.args.master.now _ _ c.head_of-head.ensures (c.text_of_word-text.ensures _) c.in-Missing.is in
+    room_as line c.args.pos c.requires.word_in_bounds
 
 pub returns-in-Master : goal.returns-in-Master
 returns-in-Master c =
-    written_as (line _ _ c.args.master.now _ _ c.head_of-head.ensures (c.text_of_word-text.ensures _) c.in-Master.is) c.write_line.ensures
+    written_as (wanted_by _ _ c.args.master.now _ _ c.head_of-head.ensures (c.text_of_word-text.ensures _) c.in-Master.is) c.write_line.ensures
 
 pub returns-in-Program : goal.returns-in-Program
 returns-in-Program c =
-    written_as (line _ _ c.args.master.now _ _ c.head_of-head.ensures (c.text_of_word-text.ensures _) c.in-Program.is) c.write_line-in-Program.ensures
+    written_as (wanted_by _ _ c.args.master.now _ _ c.head_of-head.ensures (c.text_of_word-text.ensures _) c.in-Program.is) c.write_line-in-Program.ensures
 
 pub returns-in-Missing : goal.returns-in-Missing
 unfolding text_at pair_at hex_value bytes_from
 returns-in-Missing c =
-    written_as (line _ _ c.args.master.now _ _ c.head_of-head.ensures (c.text_of_word-text.ensures _) c.in-Missing.is) c.write_line-in-Missing.ensures
+    written_as (wanted_by _ _ c.args.master.now _ _ c.head_of-head.ensures (c.text_of_word-text.ensures _) c.in-Missing.is) c.write_line-in-Missing.ensures
