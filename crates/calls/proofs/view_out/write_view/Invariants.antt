@@ -1,15 +1,8 @@
 -- After `i` words their lines stand at the front.
-use mathlib.Core.Path.{◌≡◌}
-use mathlib.Core.List.{List}
-use Prim.Native.Nat.{ℕ, ◌+◌, ◌-◌, ◌<◌}
-use native.Mathlib.Omega.{arith}
-use lib.ListN.{length, get_or}
-use Rattle.lines.specs.Entries.{Entry}
-use Rattle.lines.specs.Nodes.{Line, no_line}
-use Rattle.lines.specs.Theorems.WritingLines.{Writing, writing_starts, writing_room, writing_goes_on, writing_ends}
+use Prim.Native.Nat.{◌-◌}
+use Rattle.lines.specs.Theorems.WritingLines.{Writing}
 use Rattle.lines.specs.Engine.Starts.{lines_of, entries_of}
-use Rattle.calls.specs.Engine.Parts.{word_line, view_lines}
-use Rattle.calls.proofs.WordLines.{view_fits, view_at, view_depth}
+use Rattle.calls.specs.Engine.Parts.{view_lines}
 use Rattle.calls.proofs.view_out.write_view.Given as goal
 
 abbrev pub invariant-loop-i : goal.invariant-loop-i
