@@ -4,30 +4,23 @@
 use calls::room::{OUT_ROOM, WORK_ROOM};
 use shell::print::{print_first, print_reply, print_unreadable};
 use shell::read::read_file;
+use std::io;
 
 // One byte more than the longest legal file tells that a file is too long.
-fn main() {
+fn main(rt: HostRuntime) -> io::Result<()> {
+    let mut to = io::writer(&rt);
     let mut master = [0u8; 9857];
     let mut program = [0u8; 6625];
     let mut view = [0u8; 9857];
-    let of_master = read_file(b"master.hex", &mut master);
-    if of_master.failed {
-        print_unreadable();
-        return;
-    }
-    let of_program = read_file(b"program.hex", &mut program);
-    if of_program.failed {
-        print_unreadable();
-        return;
-    }
-    let of_view = read_file(b"view.hex", &mut view);
-    if of_view.failed {
-        print_unreadable();
-        return;
-    }
-    let m = of_master.count;
-    let p = of_program.count;
-    let v = of_view.count;
+    let Ok(m) = read_file(&rt, "master.hex", &mut master) else {
+        return print_unreadable(&mut to);
+    };
+    let Ok(p) = read_file(&rt, "program.hex", &mut program) else {
+        return print_unreadable(&mut to);
+    };
+    let Ok(v) = read_file(&rt, "view.hex", &mut view) else {
+        return print_unreadable(&mut to);
+    };
     let mut out = [0u8; OUT_ROOM];
     let mut work = [0u32; WORK_ROOM];
     let reply = calls::put_back::put_back(
@@ -37,6 +30,7 @@ fn main() {
         &mut out,
         &mut work,
     );
-    print_reply(reply.number, reply.place, reply.length);
-    print_first(&out, reply.length as usize);
+    print_reply(&mut to, reply.number, reply.place, reply.length)?;
+    print_first(&mut to, &out, reply.length as usize)?;
+    Ok(())
 }

@@ -8,6 +8,9 @@ use calls::reply::Reply;
 use calls::room::WORK_ROOM;
 use shell::numbers::number_bytes;
 use shell::print::{print_byte, print_first, print_reply};
+use shell::read::read_up_to;
+use std::io;
+use std::io::{Read, Write};
 
 const SHOW: u8 = 1;
 
@@ -110,34 +113,31 @@ fn honoured(head: Head) -> Head
 }
 
 // Whether just n bytes came.
-fn filled(buf: &mut [u8], n: usize) -> bool {
+fn filled<R: Read>(input: &mut R, buf: &mut [u8], n: usize) -> io::Result<bool> {
     if buf.len() < n {
-        return false;
+        return Ok(false);
     }
-    io::read_full(0, &mut buf[0..n]) == n
+    let came = read_up_to(input, &mut buf[0..n])?;
+    Ok(came == n)
 }
 
 fn bytes_are(s: &[u8], from: usize, value: u8) -> bool {
-    let mut i = from;
-    while i < s.len() {
+    for i in from..s.len() {
         if s[i] != value {
             return false;
         }
-        i += 1;
     }
     true
 }
 
 fn words_are(s: &[u32], from: usize, to: usize, value: u32) -> bool {
-    let mut i = from;
-    while i < to {
+    for i in from..to {
         if s.len() <= i {
             return false;
         }
         if s[i] != value {
             return false;
         }
-        i += 1;
     }
     true
 }
@@ -172,27 +172,28 @@ fn kept(call: u8, reply: Reply, written: usize, out: &[u8], work: &[u32], number
     work_kept(call, reply.number, work)
 }
 
-fn report(
+fn report<W: Write>(
+    to: &mut W,
     call: u8,
     reply: Reply,
     written: usize,
     out: &[u8; 16384],
     work: &[u32; 20480],
     numbers: &[u8; 16384],
-) -> bool {
-    print_reply(reply.number, reply.place, reply.length);
-    print_first(out, reply.length as usize);
-    print_first(numbers, written);
+) -> io::Result<()> {
+    print_reply(to, reply.number, reply.place, reply.length)?;
+    print_first(to, out, reply.length as usize)?;
+    print_first(to, numbers, written)?;
     if kept(call, reply, written, out, work, numbers) {
-        print_byte(0)
+        print_byte(to, 0)
     } else {
-        print_byte(1)
+        print_byte(to, 1)
     }
 }
 
-fn broken() -> bool {
-    print_byte(0xFF);
-    false
+fn broken<W: Write>(to: &mut W) -> io::Result<bool> {
+    print_byte(to, 0xFF)?;
+    Ok(false)
 }
 
 fn called(
@@ -212,10 +213,10 @@ fn called(
 }
 
 // Reads the files of the case, calls and reports; whether to go on.
-fn run(asked: Head) -> bool {
+fn run<R: Read, W: Write>(input: &mut R, to: &mut W, asked: Head) -> io::Result<bool> {
     let head = honoured(asked);
     if head.broken {
-        return broken();
+        return broken(to);
     }
     let m = head.master;
     let p = head.program;
@@ -223,14 +224,14 @@ fn run(asked: Head) -> bool {
     let mut master = [0u8; 16384];
     let mut program = [0u8; 16384];
     let mut view = [0u8; 16384];
-    if !filled(&mut master, m) {
-        return broken();
+    if !filled(input, &mut master, m)? {
+        return broken(to);
     }
-    if !filled(&mut program, p) {
-        return broken();
+    if !filled(input, &mut program, p)? {
+        return broken(to);
     }
-    if !filled(&mut view, v) {
-        return broken();
+    if !filled(input, &mut view, v)? {
+        return broken(to);
     }
     let mut out = [BYTE_PATTERN; 16384];
     let mut work = [WORK_PATTERN; 20480];
@@ -249,25 +250,30 @@ fn run(asked: Head) -> bool {
         &mut numbers[0..s],
     );
     let written = numbers_written(head.call, reply, number_length);
-    report(head.call, reply, written, &out, &work, &numbers)
+    report(to, head.call, reply, written, &out, &work, &numbers)?;
+    Ok(true)
 }
 
 // Runs the next case, if there is one; whether to go on.
-fn case() -> bool {
+fn case<R: Read, W: Write>(input: &mut R, to: &mut W) -> io::Result<bool> {
     let mut head = [0u8; 15];
-    let n = io::read_full(0, &mut head);
+    let n = read_up_to(input, &mut head)?;
     if n == 0 {
-        return false;
+        return Ok(false);
     }
     if n < 15 {
-        return broken();
+        return broken(to);
     }
-    run(head_in(&head))
+    run(input, to, head_in(&head))
 }
 
-fn main() {
-    let mut turns = u64::MAX;
-    while turns > 0 && case() {
-        turns -= 1;
+fn main(rt: HostRuntime) -> io::Result<()> {
+    let mut input = rt.reader();
+    let mut to = io::writer(&rt);
+    for _ in 0..u64::MAX {
+        if !case(&mut input, &mut to)? {
+            break;
+        }
     }
+    Ok(())
 }

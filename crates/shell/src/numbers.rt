@@ -1,9 +1,10 @@
 // A sweep's second output: a line of five bytes for each line of the master.
-ghost use Rattle.std.specs.Prelude.{◌≤◌, ◌<◌, length};
+ghost use Rattle.std.specs.Prelude.{◌≡◌, ◌*◌, ◌==◌, ◌≤◌, ◌<◌, if◌then◌else◌, count_by, length};
 
 // How many lines a byte ends.
 fn lines_ended(byte: u8) -> usize
-    ensures { result ≤ 1 }
+    ensures bound { result ≤ 1 }
+    ensures value { result ≡ (if byte == 0x0A then 1 else 0) }
 {
     if byte == 0x0A {
         return 1;
@@ -12,13 +13,12 @@ fn lines_ended(byte: u8) -> usize
 }
 
 fn lines_in(file: &[u8]) -> usize
-    ensures { result ≤ length file.now }
+    ensures bound { result ≤ length file.now }
+    ensures value { result ≡ count_by (λ b. b == 0x0A) file.now }
 {
     let mut count: usize = 0;
-    let mut i: usize = 0;
-    while i < file.len() {
-        count += lines_ended(file[i]);
-        i += 1;
+    for byte in file {
+        count += lines_ended(*byte);
     }
     count
 }
@@ -26,6 +26,7 @@ fn lines_in(file: &[u8]) -> usize
 // How many bytes the number lines of this master have.
 pub fn number_bytes(master: &[u8]) -> usize
     requires { length master.now < 0x10000 }
+    ensures { result ≡ 5 * count_by (λ b. b == 0x0A) master.now }
 {
     5 * lines_in(master)
 }

@@ -1,49 +1,34 @@
 // Files, as many bytes of them as a buffer holds.
-ghost use Rattle.io.specs.Counts.{IsPrefixLen};
+ghost use Rattle.std.specs.Prelude.{ℕ, ◌<◌, ◌≤◌, length, take, IfOk, OnErr};
+ghost use Rattle.std.specs.Io.{ReadsAtMost};
+ghost use Rattle.std.specs.Io.KnownBytes.{Consumes, IsAtEnd};
 
-#[derive(Clone, Copy)]
-pub struct Got {
-    pub failed: bool,
-    pub count: usize,
-}
+use std::io::Read;
+use std::rt::Files;
+use std::{fs, io};
 
-// Reads until the buffer is full or the input ends.
-pub fn read_up_to(fd: i32, buf: &mut [u8]) -> Got
-    ensures { IsPrefixLen result.count buf.new }
+// Reads until the buffer is full or the input ends, and says how many bytes came.
+pub fn read_up_to<R: Read>(reader: &mut R, buf: &mut [u8]) -> io::Result<usize>
+    ensures count { ReadsAtMost result buf.new }
+    ensures bytes { IfOk result (λ n. Consumes (R.remaining reader.old) (R.remaining reader.new) (take n buf.new)) }
+    ensures end { IfOk result (λ n. n < length buf.new → IsAtEnd (R.remaining reader.new)) }
+    ensures err { OnErr result ((n : ℕ) × (n ≤ length buf.new) × Consumes (R.remaining reader.old) (R.remaining reader.new) (take n buf.new)) }
 {
     let mut done = 0;
     while done < buf.len() {
-        let got = libc::read(fd, &mut buf[done..]);
-        if got < 0 {
-            return Got {
-                failed: true,
-                count: 0,
-            };
-        }
-        let n = io::count(got, &buf[done..]);
+        let n = reader.read(&mut buf[done..])?;
         if n == 0 {
             break;
         }
         done += n;
     }
-    Got {
-        failed: false,
-        count: done,
-    }
+    Ok(done)
 }
 
-// Failed where the file cannot be opened or read.
-pub fn read_file(path: &[u8], buf: &mut [u8]) -> Got
-    ensures { IsPrefixLen result.count buf.new }
+// Fails where the file cannot be opened or read.
+pub fn read_file<R: Files>(files: &R, path: &str, buf: &mut [u8]) -> io::Result<usize>
+    ensures { ReadsAtMost result buf.new }
 {
-    let fd = os::open_read(path);
-    if fd < 0 {
-        return Got {
-            failed: true,
-            count: 0,
-        };
-    }
-    let got = read_up_to(fd, buf);
-    libc::close(fd);
-    got
+    let mut file = fs::open(files, path)?;
+    read_up_to(&mut file, buf)
 }
