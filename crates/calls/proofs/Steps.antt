@@ -19,7 +19,7 @@ use Rattle.values.specs.Values.{Value, most_nodes, most_depth, shallow, within_b
 use Rattle.values.specs.Theorems.Forests.{Shallow}
 use Rattle.runs.specs.Engine.Trees.{Stands}
 use Rattle.runs.specs.Theorems.WholePrograms.{program_placed}
-use Rattle.runs.specs.Theorems.Bounds.{master_shows_good}
+use Rattle.runs.proofs.Theorems.Bounds.{master_shows_good}
 use Rattle.values.specs.Engine.Words.{value_at}
 use Rattle.runs.specs.Results.{gives, ◌>>=◌}
 use Rattle.runs.specs.Programs.{Transformation}

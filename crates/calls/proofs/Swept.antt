@@ -11,7 +11,7 @@ use Rattle.lines.specs.Writing.{file_of, put_at}
 use Rattle.lines.proofs.Theorems.Widths.{file_short}
 use Rattle.lines.specs.Engine.Writes.{WroteLines}
 use Rattle.sweeping.specs.Sweeping.{swept, new_numbers, number_file}
-use Rattle.sweeping.specs.Theorems.Sound.{swept_few, swept_writable}
+use Rattle.sweeping.proofs.Theorems.Sound.{swept_few, swept_writable}
 use Rattle.sweeping.specs.Engine.Parts.{SweepRoom, NumbersRoom}
 use Rattle.calls.specs.declared.reply.Reply.{Reply}
 use Rattle.calls.specs.Judging.{Judged, judged_master}

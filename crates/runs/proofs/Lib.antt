@@ -28,3 +28,4 @@ pub mod PutEach
 pub mod PutTest
 pub mod PutChoose
 pub mod PutBind
+pub mod Theorems

@@ -6,20 +6,11 @@ pub mod Congruence
 -- A run of the code, by what it answered
 pub mod RunAnswers
 -- The conservation law, and demand 3 from it and from stability
-pub mod Conservation
-pub mod Stability
-pub mod Acceptance
 pub mod Grounded
-pub mod Demand3
 pub mod ViewLines
-pub mod SameView
-pub mod OneMaster
-pub mod FreshView
 pub mod CountedViews
 -- Values and lists of standings: bounds, trees, lengths, cuts
-pub mod Bounds
 pub mod Lengths
-pub mod Cuts
 -- Reading: by the one table, and said of trees
 pub mod Table
 pub mod ByTable

@@ -3,3 +3,4 @@ pub mod Lists
 -- Where the two loops stand
 pub mod SweptLines
 pub mod NumberLines
+pub mod Theorems

@@ -2,7 +2,5 @@
 pub mod Removed
 pub mod Counting
 pub mod Numbers
-pub mod Twice
-pub mod Sound
 pub mod Demands
 pub mod Decided

@@ -21,11 +21,11 @@ use Rattle.runs.specs.Results.{gives}
 use Rattle.runs.specs.Programs.{Transformation}
 use Rattle.runs.specs.Showing.{Shown}
 use Rattle.runs.specs.Grounds.{numbered_from, line_of, Ground, one_master, showing, view, standing_for, first_clash, handed_back, lines_in}
-use Rattle.runs.specs.Theorems.FreshView.{view_mark, one_unmarked}
-use Rattle.runs.specs.Theorems.Demand3 as rules
-use Rattle.runs.specs.Theorems.Demand3.{Accepted, edit_at, Edited, Criterion, TextMarks}
-use Rattle.runs.specs.Theorems.OneMaster.{one_after, one_demand3, one_again}
-use Rattle.runs.specs.Theorems.SameView.{same_formed, same_text_marks}
+use Rattle.runs.proofs.Theorems.FreshView.{view_mark, one_unmarked}
+use Rattle.runs.proofs.Theorems.Demand3 as rules
+use Rattle.runs.proofs.Theorems.Demand3.{Accepted, edit_at, Edited, Criterion, TextMarks}
+use Rattle.runs.proofs.Theorems.OneMaster.{one_after, one_demand3, one_again}
+use Rattle.runs.proofs.Theorems.SameView.{same_formed, same_text_marks}
 use Rattle.runs.specs.Theorems.ViewLines.{Shows, view_shows, view_made, view_depth}
 use Rattle.calls.specs.Judging.{formed, keeps, ran, master_rule, judged_program, judged_master, judged_view, judged_standings, judged_show, judged_put_back}
 use Rattle.calls.specs.Outcomes.{Outcome, outcome, enough, cleared, show_call, put_back_call}

@@ -27,7 +27,7 @@ use Rattle.runs.specs.Programs.{Transformation}
 use Rattle.runs.specs.Reading.{no_entry}
 use Rattle.runs.specs.Showing.{Shown}
 use Rattle.runs.specs.Grounds.{numbered_from, line_of, lookup_in, whole, one_master, showing, shown_line, view}
-use Rattle.runs.specs.Theorems.Bounds.{master_shows_good}
+use Rattle.runs.proofs.Theorems.Bounds.{master_shows_good}
 use Rattle.runs.specs.Theorems.WholePrograms.{program_placed}
 use Rattle.calls.specs.Judging.{judged_program, judged_show}
 use Rattle.calls.specs.Theorems.Judged.{program_passed, master_passed, show_passed}

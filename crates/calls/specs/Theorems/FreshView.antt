@@ -14,7 +14,7 @@ use Rattle.lines.specs.Theorems.SameTexts.{same_text_refl}
 use Rattle.values.specs.Values.{Value}
 use Rattle.runs.specs.Results.{gives}
 use Rattle.runs.specs.Grounds.{numbered_from, shown_line, one_master, view}
-use Rattle.runs.specs.Theorems.FreshView.{Unmarked, fresh_mark, one_unmarked, one_fresh}
+use Rattle.runs.proofs.Theorems.FreshView.{Unmarked, fresh_mark, one_unmarked, one_fresh}
 use Rattle.runs.specs.Theorems.Inversion.{gives_inj}
 use Rattle.calls.specs.Judging.{ran, master_rule, judged_master, judged_show, judged_put_back}
 use Rattle.calls.specs.Outcomes.{outcome, enough, cleared, settled, called, show_call, put_back_call}

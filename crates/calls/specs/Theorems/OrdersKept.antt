@@ -11,7 +11,7 @@ use Rattle.lines.specs.Engine.Writes.{AllWritable}
 use Rattle.runs.specs.Results.{gives}
 use Rattle.runs.specs.Programs.{Transformation}
 use Rattle.runs.specs.Grounds.{numbered_from, one_master, standing_for}
-use Rattle.runs.specs.Theorems.OneMaster.{length_handed_back, one_handed_back}
+use Rattle.runs.proofs.Theorems.OneMaster.{length_handed_back, one_handed_back}
 use Rattle.calls.specs.Judging.{judged_standings, judged_put_back}
 use Rattle.calls.specs.Outcomes.{put_back_call}
 use Rattle.calls.specs.Demands.{number_of, written, OrdersKept, KeepsOrders}

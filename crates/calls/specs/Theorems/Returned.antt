@@ -16,10 +16,10 @@ use Rattle.runs.specs.Results.{gives}
 use Rattle.runs.specs.Programs.{Transformation}
 use Rattle.runs.specs.Showing.{Shown}
 use Rattle.runs.specs.Grounds.{numbered_from, lines_in, one_master, showing, view, standing_for, handed_back}
-use Rattle.runs.specs.Theorems.Demand3.{Accepted, formed_after}
+use Rattle.runs.proofs.Theorems.Demand3.{Accepted, formed_after}
 use Rattle.runs.specs.Theorems.Inversion.{no_gives}
-use Rattle.runs.specs.Theorems.OneMaster.{one_covered, length_handed_back, one_handed_back, one_bounds}
-use Rattle.runs.specs.Theorems.SameView.{same_formed}
+use Rattle.runs.proofs.Theorems.OneMaster.{one_covered, length_handed_back, one_handed_back, one_bounds}
+use Rattle.runs.proofs.Theorems.SameView.{same_formed}
 use Rattle.calls.specs.Judging.{master_rule, judged_master, judged_standings, judged_show, judged_put_back}
 use Rattle.calls.specs.Outcomes.{outcome, show_call, put_back_call}
 use Rattle.calls.specs.Demands.{number_of, written}

@@ -12,10 +12,10 @@ use Rattle.runs.specs.Results.{gives}
 use Rattle.runs.specs.Programs.{Transformation}
 use Rattle.runs.specs.Showing.{Shown}
 use Rattle.runs.specs.Grounds.{Numbered, numbered_from, line_of, Ground, one_master, showing, shown_line, view, standing, handed_back}
-use Rattle.runs.specs.Theorems.Conservation.{lock}
+use Rattle.runs.proofs.Theorems.Conservation.{lock}
 use Rattle.runs.specs.Theorems.Grounded.{has_line, Covered, absent_gathered, absent_slots}
-use Rattle.runs.specs.Theorems.Demand3.{standing_is}
-use Rattle.runs.specs.Theorems.OneMaster.{one_covered, one_line}
+use Rattle.runs.proofs.Theorems.Demand3.{standing_is}
+use Rattle.runs.proofs.Theorems.OneMaster.{one_covered, one_line}
 
 -- ## One master's numbers are places
 

@@ -14,8 +14,8 @@ use Rattle.sweeping.specs.Sweeping.{swept, new_numbers, number_file, numbers_in}
 use Rattle.sweeping.specs.Theorems.Removed.{SameMarksAndDepths, numbers_alone}
 use Rattle.sweeping.specs.Theorems.Counting.{numbers_long}
 use Rattle.sweeping.specs.Theorems.Numbers.{numbers_small, numbers_read}
-use Rattle.sweeping.specs.Theorems.Twice.{sweep_twice, numbers_again, swept_unmarked, unmarked_same}
-use Rattle.sweeping.specs.Theorems.Sound.{swept_few, swept_bounds, swept_writable}
+use Rattle.sweeping.proofs.Theorems.Twice.{sweep_twice, numbers_again, swept_unmarked, unmarked_same}
+use Rattle.sweeping.proofs.Theorems.Sound.{swept_few, swept_bounds, swept_writable}
 use Rattle.sweeping.specs.Theorems.Demands.{sweeps}
 use Rattle.runs.specs.Results.{gives, stops}
 use Rattle.calls.specs.Judging.{Judged, master_rule, judged_master}

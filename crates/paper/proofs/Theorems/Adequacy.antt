@@ -16,11 +16,11 @@ use Rattle.runs.specs.Programs.{Transformation}
 use Rattle.runs.specs.Reading.{whole_room, read_program}
 use Rattle.runs.specs.Showing.{Shown}
 use Rattle.runs.specs.Grounds.{numbered_from, lookup_in, one_master, showing, view, standing_for}
-use Rattle.runs.specs.Theorems.Bounds.{master_shows_good}
-use Rattle.runs.specs.Theorems.Demand3.{formed_after}
+use Rattle.runs.proofs.Theorems.Bounds.{master_shows_good}
+use Rattle.runs.proofs.Theorems.Demand3.{formed_after}
 use Rattle.runs.specs.Theorems.Grounded.{fault_least}
-use Rattle.runs.specs.Theorems.OneMaster.{one_covered, one_rising, one_handed_back}
-use Rattle.runs.specs.Theorems.SameView.{same_formed}
+use Rattle.runs.proofs.Theorems.OneMaster.{one_covered, one_rising, one_handed_back}
+use Rattle.runs.proofs.Theorems.SameView.{same_formed}
 use Rattle.runs.specs.Theorems.WholePrograms.{program_placed}
 use Rattle.calls.specs.Theorems.ShownNumbers.{line_is}
 use Rattle.paper.specs.Data.{Sequence, May, fail, got}

@@ -22,11 +22,11 @@ use Rattle.runs.specs.Reading.{whole_room}
 use Rattle.runs.specs.Showing.{Shown, show}
 use Rattle.runs.specs.PuttingBack.{value_of, untouched_slots, gathered_slots, put_back}
 use Rattle.runs.specs.Grounds.{Numbered, numbered_from, lookup_in, whole, one_master, showing, brought, standing, standing_for}
-use Rattle.runs.specs.Theorems.Conservation.{lock}
-use Rattle.runs.specs.Theorems.Demand3.{standing_for_is}
+use Rattle.runs.proofs.Theorems.Conservation.{lock}
+use Rattle.runs.proofs.Theorems.Demand3.{standing_for_is}
 use Rattle.runs.specs.Theorems.Grounded.{absent_gathered, fine_no_clash, no_clash_fine}
-use Rattle.runs.specs.Theorems.OneMaster.{one_covered, one_line}
-use Rattle.runs.specs.Theorems.FreshView.{one_unmarked}
+use Rattle.runs.proofs.Theorems.OneMaster.{one_covered, one_line}
+use Rattle.runs.proofs.Theorems.FreshView.{one_unmarked}
 use Rattle.runs.specs.Theorems.WholePrograms.{program_placed}
 use Rattle.paper.specs.Data.{Sequence, none, fail, got}
 use Rattle.paper.specs.Operators.{Guard}

@@ -12,7 +12,7 @@ use Rattle.runs.specs.Results.{gives}
 use Rattle.runs.specs.Showing.{Shown, Answer}
 use Rattle.runs.specs.PuttingBack.{SlotStandings, first_slot, rest_slots, merged_into, gathered_slots, Back}
 use Rattle.runs.specs.Theorems.Combinators.{Run, Asking, Putting}
-use Rattle.runs.specs.Theorems.Conservation.{lock, among_append}
+use Rattle.runs.proofs.Theorems.Conservation.{lock, among_append}
 use Rattle.paper.specs.Data.{Sequence, none, str, ◌⧺◌, May, fail, got, ◌>>=◌}
 use Rattle.paper.specs.Contexts.{Context, PairContext, firsts}
 use Rattle.paper.specs.Operators.{mg, Forward, Backward, Guard}

@@ -13,7 +13,7 @@ use Rattle.runs.specs.PuttingBack.{SlotStandings, gathered_slots, Back, back, va
 use Rattle.runs.specs.Theorems.Combinators.{Run, Putting, each_run}
 use Rattle.runs.specs.Theorems.Combinators.{items_put, each_put}
 use Rattle.runs.specs.Theorems.Inversion.{on_gives, both, on_turn}
-use Rattle.runs.specs.Theorems.Conservation.{lock, Law}
+use Rattle.runs.proofs.Theorems.Conservation.{lock, Law}
 use Rattle.paper.specs.Data.{Sequence, none, ◌⧺◌, len, May, got, ◌>>=◌}
 use Rattle.paper.specs.Contexts.{Context, PairContext}
 use Rattle.paper.specs.Operators.{split, Forward, Backward, iter}

@@ -11,8 +11,8 @@ use Rattle.values.proofs.Theorems.MergeLaws.{unit_left, unit_right}
 use Rattle.values.proofs.Theorems.Copies.{standing_at}
 use Rattle.values.specs.Theorems.Forests.{reach, Walk, Forest}
 use Rattle.runs.specs.Grounds.{Numbered, numbered_from, line_of, lookup_in, whole, one_master, shown_line, view}
-use Rattle.runs.specs.Theorems.OneMaster.{one_line}
-use Rattle.runs.specs.Theorems.Bounds.{master_good}
+use Rattle.runs.proofs.Theorems.OneMaster.{one_line}
+use Rattle.runs.proofs.Theorems.Bounds.{master_good}
 use Rattle.paper.specs.Lines.{sequence}
 use Rattle.paper.specs.Theorems.Trees.{Trees, nil, txt, elm, at, flat, Numbering, mark_for, paint, Right}
 use Rattle.paper.proofs.Theorems.Places.{no_marks}

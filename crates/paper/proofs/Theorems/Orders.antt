@@ -15,7 +15,7 @@ use Rattle.values.specs.Standings.{Standing, hands_back}
 use Rattle.values.proofs.Theorems.Edits.{hands_back_head}
 use Rattle.values.specs.Theorems.Forests.{Walk, Forest}
 use Rattle.runs.specs.Grounds.{numbered_from, lookup_in, whole, one_master, shown_line, view, lines_in, handed_back}
-use Rattle.runs.specs.Theorems.Bounds.{master_good}
+use Rattle.runs.proofs.Theorems.Bounds.{master_good}
 use Rattle.runs.specs.Theorems.ViewLines.{shown_line_depth}
 use Rattle.calls.specs.Theorems.ShownNumbers.{line_is}
 use Rattle.calls.specs.Theorems.ViewEdits.{same_alike}

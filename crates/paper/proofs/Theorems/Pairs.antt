@@ -14,7 +14,7 @@ use Rattle.runs.specs.PuttingBack.{SlotStandings, gathered_slots, Back, back, va
 use Rattle.runs.specs.Theorems.Combinators.{Run, Asking, Putting, then_run, beside_run, branch_run, choose_run}
 use Rattle.runs.specs.Theorems.Combinators.{then_put, beside_put, branch_put, choose_put}
 use Rattle.runs.specs.Theorems.Inversion.{on_gives, on_bind, both, on_pair}
-use Rattle.runs.specs.Theorems.Conservation.{lock, Law}
+use Rattle.runs.proofs.Theorems.Conservation.{lock, Law}
 use Rattle.paper.specs.Data.{Sequence, none, got, ◌>>=◌}
 use Rattle.paper.specs.Contexts.{Context}
 use Rattle.paper.specs.Operators.{mg, Forward, Backward}

@@ -8,7 +8,7 @@ use Rattle.values.proofs.Theorems.Gathering.{gathered_cut}
 use Rattle.runs.specs.Showing.{Shown}
 use Rattle.runs.specs.PuttingBack.{SlotStandings, gathered_slots}
 use Rattle.runs.specs.Theorems.Inversion.{both}
-use Rattle.runs.specs.Theorems.Conservation.{lock, lock_append}
+use Rattle.runs.proofs.Theorems.Conservation.{lock, lock_append}
 use Rattle.paper.specs.Data.{Sequence, none, ◌⧺◌, len, got}
 use Rattle.paper.specs.Operators.{cut, split}
 use Rattle.paper.specs.Theorems.Trees.{seq_none, Trees, nil, txt, elm, Scope, flat_slots, paint}

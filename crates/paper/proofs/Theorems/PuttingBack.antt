@@ -8,7 +8,7 @@ use Rattle.runs.specs.Programs.{and_then, beside, each, choose, bind, Test, comp
 use Rattle.runs.specs.Showing.{verdict, show, test}
 use Rattle.runs.specs.PuttingBack.{put_back, put_back_test}
 use Rattle.runs.specs.Reading.{Room}
-use Rattle.runs.specs.Theorems.Conservation.{law}
+use Rattle.runs.proofs.Theorems.Conservation.{law}
 use Rattle.runs.specs.Engine.Trees.{Sound, SoundTest}
 use Rattle.paper.specs.Operators.{Guard}
 use Rattle.paper.specs.Semantics.{forward, asks, backward, holds}

@@ -16,7 +16,7 @@ use Rattle.runs.specs.PuttingBack.{SlotStandings, merged_into, gathered_slots, b
 use Rattle.runs.specs.Theorems.Combinators.{Run, Putting, source_run, made_run, slot_run, contents_run, within_run, bound, bind_run}
 use Rattle.runs.specs.Theorems.Combinators.{source_put, made_put, slot_put, contents_put, within_put, bind_put}
 use Rattle.runs.specs.Theorems.Inversion.{no_gives, on_gives, on_bind, on_bounded}
-use Rattle.runs.specs.Theorems.Conservation.{lock}
+use Rattle.runs.proofs.Theorems.Conservation.{lock}
 use Rattle.paper.specs.Data.{Sequence, none, elt, got, ◌>>=◌, ◌>>◌, provided, same_sequence}
 use Rattle.paper.specs.Contexts.{Context}
 use Rattle.paper.specs.Operators.{Forward, Backward}

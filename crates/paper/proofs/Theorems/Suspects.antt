@@ -18,8 +18,8 @@ use Rattle.runs.specs.Programs.{Transformation}
 use Rattle.runs.specs.Showing.{Shown}
 use Rattle.runs.specs.PuttingBack.{put_back}
 use Rattle.runs.specs.Grounds.{numbered_from, lookup_in, whole, one_master, brought, standing, standing_for}
-use Rattle.runs.specs.Theorems.Conservation.{lock}
-use Rattle.runs.specs.Theorems.Demand3.{standing_is, standing_for_is, brought_at}
+use Rattle.runs.proofs.Theorems.Conservation.{lock}
+use Rattle.runs.proofs.Theorems.Demand3.{standing_is, standing_for_is, brought_at}
 use Rattle.paper.specs.Data.{ori, ori_e, src, Sequence, none, got}
 use Rattle.paper.specs.Contexts.{PairContext}
 use Rattle.paper.specs.Operators.{guard}

@@ -17,7 +17,7 @@ use Rattle.runs.specs.PuttingBack.{SlotStandings, gathered_slots, Back, back}
 use Rattle.runs.specs.Theorems.Combinators.{Run, Putting, compares_ask, plain_ask}
 use Rattle.runs.specs.Theorems.Combinators.{source_put, compares_put}
 use Rattle.runs.specs.Theorems.Inversion.{no_gives, gives_inj, on_gives, on_bind}
-use Rattle.runs.specs.Theorems.Conservation.{lock, lock_append, lock_number}
+use Rattle.runs.proofs.Theorems.Conservation.{lock, lock_append, lock_number}
 use Rattle.paper.specs.Data.{Sequence, none, got, ◌>>=◌, ◌>>◌, provided, is_none}
 use Rattle.paper.specs.Language.{Judge}
 use Rattle.paper.specs.Contexts.{Context}

@@ -11,7 +11,7 @@ use Rattle.runs.specs.Results.{Result, gives, stops}
 use Rattle.runs.specs.Programs.{Transformation, beside, each}
 use Rattle.runs.specs.Showing.{Slots, Shown, in_turn, show}
 use Rattle.runs.specs.PuttingBack.{value_of}
-use Rattle.runs.specs.Theorems.Bounds.{GoodSlots, AllGiveGood, items_good, shows_good}
+use Rattle.runs.proofs.Theorems.Bounds.{GoodSlots, AllGiveGood, items_good, shows_good}
 use Rattle.runs.specs.Theorems.Inversion.{on_gives, on_turn}
 
 -- ## Cutting by top nodes

@@ -19,7 +19,7 @@ use Rattle.runs.specs.Showing.{Single, Slots, value_in, Shown, shown, one_elemen
 use Rattle.runs.specs.Grounds.{numbered_from, lookup_in, whole, one_master, showing}
 use Rattle.runs.specs.Theorems.Combinators.{Run, Asking, within_run, then_run, branch_run, choose_run, bound}
 use Rattle.runs.specs.Theorems.Inversion.{on_gives, on_bind, on_element, on_bounded, on_turn}
-use Rattle.runs.specs.Theorems.OneMaster.{one_line}
+use Rattle.runs.proofs.Theorems.OneMaster.{one_line}
 
 -- ## Showing keeps them
 

@@ -13,7 +13,7 @@ use Rattle.runs.specs.Results.{gives}
 use Rattle.runs.specs.Programs.{Transformation}
 use Rattle.runs.specs.Showing.{Shown}
 use Rattle.runs.specs.Grounds.{Ground, showing, standing_for}
-use Rattle.runs.specs.Theorems.Demand3.{Accepted, TextMarks, Demand3, demand3}
+use Rattle.runs.proofs.Theorems.Demand3.{Accepted, TextMarks, Demand3, demand3}
 use Rattle.runs.specs.Theorems.Grounded.{has_line, Absent, Covered, Rising, whole_handed_back}
 
 absent_whole : (ls : List Numbered) (n : ℕ) → has_line n ls ≡ false → Absent n (whole ls)

@@ -14,7 +14,7 @@ use Rattle.runs.specs.Programs.{Transformation, source, nothing, text, tag, slot
 use Rattle.runs.specs.Showing.{Slots, Shown, Answer, one_top, one_element, one_text, in_turn, verdict, show, test}
 use Rattle.runs.specs.Theorems.Combinators.{Run, Asking, within_run, then_run, branch_run, choose_run, compares_ask, plain_ask}
 use Rattle.runs.specs.Theorems.Inversion.{on_gives, on_bind, on_element, on_bounded, on_turn}
-use Rattle.runs.specs.Theorems.Conservation.{among_append}
+use Rattle.runs.proofs.Theorems.Conservation.{among_append}
 
 -- ## An old lookup and a new one
 

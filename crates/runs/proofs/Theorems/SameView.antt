@@ -13,7 +13,7 @@ use Rattle.values.proofs.Theorems.Copies.{is_copy}
 use Rattle.runs.specs.Showing.{Shown}
 use Rattle.runs.specs.Grounds.{line_of, Ground, view}
 use Rattle.runs.specs.Theorems.ViewLines.{view_shows}
-use Rattle.runs.specs.Theorems.Demand3.{FormedLike, TextMarks}
+use Rattle.runs.proofs.Theorems.Demand3.{FormedLike, TextMarks}
 
 -- no difference: the same line at each place
 same_at : (k : ℕ) (ls fs : List Line) → difference_from k ls fs ≡ Fine → (i : ℕ) → same_line (line_at ls i) (line_at fs i) ≡ true

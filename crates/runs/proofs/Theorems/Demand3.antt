@@ -17,9 +17,9 @@ use Rattle.runs.specs.Programs.{Transformation}
 use Rattle.runs.specs.Showing.{Shown}
 use Rattle.runs.specs.PuttingBack.{untouched_slots, value_of}
 use Rattle.runs.specs.Grounds.{line_of, lookup_in, Ground, showing, brought, standing, standing_for, first_clash, handed_back, after}
-use Rattle.runs.specs.Theorems.Conservation.{lock, slots_untouched, law}
-use Rattle.runs.specs.Theorems.Stability.{stable}
-use Rattle.runs.specs.Theorems.Acceptance.{Agreed, no_clash_agreed, agreed_edit, silent_lock, agreed_no_clash}
+use Rattle.runs.proofs.Theorems.Conservation.{lock, slots_untouched, law}
+use Rattle.runs.proofs.Theorems.Stability.{stable}
+use Rattle.runs.proofs.Theorems.Acceptance.{Agreed, no_clash_agreed, agreed_edit, silent_lock, agreed_no_clash}
 use Rattle.runs.specs.Theorems.Grounded.{has_line, Covered, Rising, absent_gathered, absent_slots, line_of_handed_back, fine_no_clash, no_clash_fine, fault_least}
 
 -- ## What the demand speaks of: a ground, a program, what it shows, and the lines of a view of it

@@ -10,7 +10,7 @@ use Rattle.values.proofs.Theorems.MergeLaws.{unit_left, unit_right, differ, no_c
 use Rattle.values.proofs.Theorems.Gathering.{only}
 use Rattle.values.proofs.Theorems.Copies.{is_copy, standing_at, untouched_cases, Silent, Speaks, silent_or_speaks, gathered_says, gathered_agrees, gathered_silent}
 use Rattle.values.proofs.Theorems.Edits.{FromLine}
-use Rattle.runs.specs.Theorems.Conservation.{lock}
+use Rattle.runs.proofs.Theorems.Conservation.{lock}
 
 -- of node n, by the standings ss that a view brings and the numbers compared
 pub record Agreed (n : ℕ) (v : Value) (ss : List Standing) (compared : List ℕ) : Type 0 where

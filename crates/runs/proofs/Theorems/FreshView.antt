@@ -14,10 +14,10 @@ use Rattle.runs.specs.Programs.{Transformation}
 use Rattle.runs.specs.Showing.{Shown}
 use Rattle.runs.specs.Grounds.{Numbered, numbered_from, line_of, lookup_in, Ground, showing, shown_line}
 use Rattle.runs.specs.Grounds.{view, brought, standing_for, first_clash, handed_back, lines_in, one_master}
-use Rattle.runs.specs.Theorems.Conservation.{lock}
-use Rattle.runs.specs.Theorems.Acceptance.{silent_lock}
+use Rattle.runs.proofs.Theorems.Conservation.{lock}
+use Rattle.runs.proofs.Theorems.Acceptance.{silent_lock}
 use Rattle.runs.specs.Theorems.Grounded.{no_clash_fine}
-use Rattle.runs.specs.Theorems.Demand3.{Edited, standing_for_is, brought_from_line, by_edited}
+use Rattle.runs.proofs.Theorems.Demand3.{Edited, standing_for_is, brought_from_line, by_edited}
 
 handed_back_same : (s : ℕ → Standing) (b : ℕ → Bool) → ((n : ℕ) → s n ≡ only (b n) locked) → (ls : List Numbered) → handed_back s ls ≡ ls
 unfolding handed_back
