@@ -42,7 +42,8 @@ kit_programs() {
     for name; do kit_prove "$name" run || return; done
 }
 
-# Proves and writes the archive of the C forms. It is kept while nothing is newer than the start of that proof.
+# Proves and writes the archive of the C forms, which may rest on no contract of a C function. It is kept while nothing
+# is newer than the start of that proof.
 kit_archive() {
     begun=target/archive
     [ -f $archive ] && [ -f $begun ] &&
@@ -51,6 +52,7 @@ kit_archive() {
     mkdir -p target
     touch $begun.now
     kit_prove meadcinder lib
+    ! grep '^logic=.* axioms=' "$kit_log" >&2 || return 1
     mv $begun.now $begun
 }
 
