@@ -5,4 +5,4 @@ cd "$(dirname "$0")/.."
 . tools/kit.sh
 kit_archive
 kit_build examples/host.c target/c/host
-kit_run target/c/host
+target/c/host
