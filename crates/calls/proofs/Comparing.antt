@@ -26,9 +26,9 @@ use Rattle.calls.specs.declared.reply.Reply.{Reply}
 use Rattle.calls.specs.declared.reply.Step.{Step}
 use Rattle.calls.specs.declared.reply.Step.TheVariants.{Goes, Refused}
 use Rattle.calls.specs.Engine.Parts.{Refuses, view_lines, ShownWords, ViewGoes, ViewJudged, Carriable, CarriedBack, Comparable, ComparedBack}
-use Rattle.calls.specs.Theorems.Judged.{ViewPassed, view_passed}
-use Rattle.calls.specs.Theorems.FreshLines.{length_view}
-use Rattle.calls.specs.Theorems.Returned.{returned_writable}
+use Rattle.calls.proofs.Theorems.Judged.{ViewPassed, view_passed}
+use Rattle.calls.proofs.Theorems.FreshLines.{length_view}
+use Rattle.calls.proofs.Theorems.Returned.{returned_writable}
 use Rattle.calls.proofs.WordLines.{view_long}
 use Rattle.calls.proofs.Steps.{refused_first, refused_settles, passed_settles}
 

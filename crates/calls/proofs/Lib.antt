@@ -22,3 +22,4 @@ pub mod Carrying
 pub mod Comparing
 -- A sweep: its room, and what its writers leave
 pub mod Swept
+pub mod Theorems

@@ -36,8 +36,8 @@ use Rattle.calls.specs.declared.reach.Reached.{Reached}
 use Rattle.calls.specs.declared.reach.Reached.TheVariants as reached
 use Rattle.calls.specs.Engine.Parts.{show_room, put_back_room, replied, Refuses, Settles, ProgramGoes, ProgramJudged, MasterGoes, MasterJudged}
 use Rattle.calls.specs.Engine.Parts.{Runnable, RunGoes, RanBy, after_run, RunReached, ReachedBy, view_lines, ViewRoom, Comparable, ComparedBack}
-use Rattle.calls.specs.Theorems.Judged.{MasterPassed, master_passed}
-use Rattle.calls.specs.Theorems.FreshLines.{fresh_writable, fresh_few, length_view}
+use Rattle.calls.proofs.Theorems.Judged.{MasterPassed, master_passed}
+use Rattle.calls.proofs.Theorems.FreshLines.{fresh_writable, fresh_few, length_view}
 
 -- ## One step, then the rest
 

@@ -1,27 +1,14 @@
--- What is proved of the calls. No definition outside this folder rests on it.
--- A judging taken apart; an outcome by its three ways; what a program shows of a master can be written
-pub mod Judged
-pub mod Replies
+-- What is proved of the calls, but for what fails with a wrong definition: that stands in proofs/Theorems. No definition outside these
+-- folders rests on it.
+-- What a program shows of a master comes from it
 pub mod Origins
-pub mod FreshLines
 -- From a judging that settles to a call's outcome
 pub mod Settled
 -- The theorems on bytes
-pub mod Returned
-pub mod FreshView
 pub mod Unique
-pub mod Refusals
 pub mod ReadingEnough
--- Our calls meet the demands
-pub mod Demand12
+-- Towards demand 3
 pub mod ViewEdits
 pub mod ShownNumbers
 pub mod EditedLines
-pub mod SavedLines
 pub mod ClashSearch
-pub mod Demand3
-pub mod OrdersKept
--- The call sweep: its contract decides, and it is what its request asks; no other is; after a put-back it is what the edits say
-pub mod Sweeping
-pub mod SweepDecided
-pub mod SweptEdits

@@ -1,4 +1,4 @@
--- Theorems with which a wrong definition must fail, each file under its subject.
+-- What is proved of lines and fails with a wrong definition. No definition outside this folder rests on it.
 pub mod CountedMarks
 pub mod TrimmedTexts
 pub mod LongFiles

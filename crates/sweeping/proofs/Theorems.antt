@@ -1,3 +1,3 @@
--- Theorems with which a wrong definition must fail, each file under its subject.
+-- What is proved of sweeping and fails with a wrong definition. No definition outside this folder rests on it.
 pub mod Sound
 pub mod Twice

@@ -1,4 +1,4 @@
--- Theorems with which a wrong definition must fail, each file under its subject.
+-- What is proved of values and standings and fails with a wrong definition. No definition outside this folder rests on it.
 pub mod MergeLaws
 pub mod Copies
 pub mod Edits

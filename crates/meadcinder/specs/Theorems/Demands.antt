@@ -6,12 +6,12 @@ use Rattle.runs.specs.Results.{gives}
 use Rattle.calls.specs.Judging.{judged_master, judged_show, judged_put_back}
 use Rattle.calls.specs.Outcomes.{show_call}
 use Rattle.calls.specs.Demands.{number_of, written, RefusesRightly, WritesRightly, Given, fresh_lines, Answers, SameLines, OrdersKept}
-use Rattle.calls.specs.Theorems.Demand12 as calls
-use Rattle.calls.specs.Theorems.Demand3 as carried
-use Rattle.calls.specs.Theorems.OrdersKept as orders
+use Rattle.calls.proofs.Theorems.Demand12 as calls
+use Rattle.calls.proofs.Theorems.Demand3 as carried
+use Rattle.calls.proofs.Theorems.OrdersKept as orders
 use Rattle.calls.specs.Sweeping.{enough_for_both, sweep_call}
 use Rattle.calls.specs.SweepDemands.{SweepRefuses, SweepAnswers}
-use Rattle.calls.specs.Theorems.Sweeping as sweeping
+use Rattle.calls.proofs.Theorems.Sweeping as sweeping
 use Rattle.meadcinder.specs.Forms.{PackedOutcome, own_work, as_read, ShowsInC, PutsBackInC, both_as_read, SweepsInC}
 use Rattle.meadcinder.specs.Demands.{ShowDemand1, PutDemand1, ShowDemand2, PutDemand2, Demand3, KeepsOrders, SweepDemand}
 

@@ -19,11 +19,11 @@ use Rattle.runs.specs.Showing.{Shown}
 use Rattle.runs.specs.Grounds.{one_master, showing, view}
 use Rattle.calls.specs.Judging.{keeps, ran, judged_program, judged_master, judged_view, judged_standings, judged_show, judged_put_back}
 use Rattle.calls.specs.Outcomes.{show_call, put_back_call}
-use Rattle.calls.specs.Theorems.Judged.{Holds, program_passed, master_passed, rule_unmarked, ran_gives, view_passed, standings_passed, show_passed, put_back_passed}
+use Rattle.calls.proofs.Theorems.Judged.{Holds, program_passed, master_passed, rule_unmarked, ran_gives, view_passed, standings_passed, show_passed, put_back_passed}
 use Rattle.lines.specs.Theorems.LineRules.{fields_at, rule_kind}
 use Rattle.lines.specs.Theorems.PutAt.{put_front}
-use Rattle.calls.specs.Theorems.Replies.{Refusing, gives_refusing, bind_refusing, program_refusing, master_refusing, ran_refusing, view_refusing, standings_refusing}
-use Rattle.calls.specs.Theorems.Replies.{show_refusals, put_back_refusals, by_outcome}
+use Rattle.calls.proofs.Theorems.Replies.{Refusing, gives_refusing, bind_refusing, program_refusing, master_refusing, ran_refusing, view_refusing, standings_refusing}
+use Rattle.calls.proofs.Theorems.Replies.{show_refusals, put_back_refusals, by_outcome}
 use Rattle.paper.specs.Data.{Sequence, fail, got}
 use Rattle.paper.specs.Operators.{Guard, guard}
 use Rattle.paper.specs.Strict.{strict_guard}

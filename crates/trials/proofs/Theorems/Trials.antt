@@ -11,7 +11,7 @@ use Rattle.runs.specs.Showing.{Shown}
 use Rattle.calls.specs.Judging.{Judged, judged_show}
 use Rattle.calls.specs.Outcomes.{Outcome, outcome, cleared, show_call, put_back_call}
 use Rattle.calls.specs.Demands.{ShowLike, PutLike, number_of, length_of, written, ShowDemand2, Given, fresh_lines, EditedLine, Demand3, SavedSame, OrdersKept, KeepsOrders}
-use Rattle.calls.specs.Theorems.Demand3.{demand3}
+use Rattle.calls.proofs.Theorems.Demand3.{demand3}
 use Rattle.trials.specs.Theorems.Contracts.{MeetsShow, MeetsPutBack, fails_show_demand2, fails_demand3}
 use Rattle.trials.specs.Theorems.Cases.{line, file, shown_node, puts_back, case, answer, holds, roomy_out, roomy_work, roomy}
 use Rattle.trials.specs.Theorems.Bench.{M, P, PP, whole, inner, P-view, P-view-hi, P-view-saved, PP-view-saved, PP-view-counted, inner_view_both}

@@ -6,9 +6,9 @@ use Rattle.calls.specs.Demands.{ShowLike, PutLike, written, ShowDemand1, PutDema
 use Rattle.calls.specs.Demands.{ShowDemand2, PutDemand2, Given, Answers, Demand3}
 use Rattle.calls.specs.Sweeping.{sweep_call}
 use Rattle.calls.specs.SweepDemands.{SweepLike, SweepDemand}
-use Rattle.calls.specs.Theorems.Demand12.{show_demand1, put_demand1, show_demand2, put_demand2}
-use Rattle.calls.specs.Theorems.Demand3.{demand3}
-use Rattle.calls.specs.Theorems.Sweeping.{sweep_demand}
+use Rattle.calls.proofs.Theorems.Demand12.{show_demand1, put_demand1, show_demand2, put_demand2}
+use Rattle.calls.proofs.Theorems.Demand3.{demand3}
+use Rattle.calls.proofs.Theorems.Sweeping.{sweep_demand}
 
 -- ## The contracts of `show::show`, `put_back::put_back` and `sweep::sweep`: for whatever is lent, the outcome is the one that Outcomes, or Sweeping, gives
 

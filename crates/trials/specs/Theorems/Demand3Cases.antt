@@ -13,7 +13,7 @@ use Rattle.runs.specs.Grounds.{one_master, showing, view}
 use Rattle.calls.specs.Judging.{judged_program, judged_master, judged_view}
 use Rattle.calls.specs.Outcomes.{enough, put_back_call}
 use Rattle.calls.specs.Demands.{number_of, place_of, FromProgram, Given, fresh_lines, IsEdited, EditedLine, Clashes, differ, compare}
-use Rattle.calls.specs.Theorems.Demand3.{pass_given}
+use Rattle.calls.proofs.Theorems.Demand3.{pass_given}
 use Rattle.trials.specs.Theorems.Cases.{line, file, shown_node, puts_back, case, answer, holds}
 use Rattle.trials.specs.Theorems.Bench.{M, P, PP, hi, only_hi, P-view-hi, P-view-saved, PP-view-clash, PP-view-saved, PP-view-counted, only_hi_view_lo}
 

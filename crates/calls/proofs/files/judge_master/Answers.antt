@@ -1,7 +1,6 @@
 -- The scan, then the rules over the places that it noted.
 use Prim.Native.Nat.{◌≤◌}
 use native.Mathlib.Omega.{arith}
-use borrow.Author.Rules.{rules}
 use Rattle.lines.proofs.Theorems.Places.{scanned_wrong}
 use Rattle.calls.proofs.Places.{refused}
 use Rattle.calls.proofs.JudgedFiles.{master_misformed, master_few, master_place, master_faulty, master_goes}

@@ -1,7 +1,6 @@
 -- The scan, then the tree check over the places that it noted.
 use Prim.Native.Nat.{◌≤◌}
 use native.Mathlib.Omega.{arith}
-use borrow.Author.Rules.{rules}
 use Rattle.lines.proofs.Theorems.Places.{scanned_wrong}
 use Rattle.calls.proofs.Places.{refused}
 use Rattle.calls.proofs.JudgedFiles.{program_misformed, program_few, program_sized, program_faulty, program_goes}

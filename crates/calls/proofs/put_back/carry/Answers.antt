@@ -4,11 +4,8 @@ use mathlib.Core.Path.{◌≡◌, refl, sym}
 use mathlib.Core.List.{List}
 use lib.ListN.{length, length-map, replicate}
 use Prim.Native.Nat.{ℕ}
-use borrow.Author.Rules.{rules}
-use Rattle.lines.specs.Nodes.{Line}
-use Rattle.lines.specs.Entries.{Entry}
-use Rattle.lines.specs.Engine.Starts.{node_at, lines_of, entries_of}
-use Rattle.calls.proofs.Carrying.{Handed, Stood, put_asks, standings_put}
+use Rattle.lines.specs.Engine.Starts.{node_at, lines_of}
+use Rattle.calls.proofs.Carrying.{put_asks, standings_put}
 use Rattle.calls.proofs.put_back.carry.Goals as goal
 
 -- the code counts starts

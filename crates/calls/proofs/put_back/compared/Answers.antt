@@ -1,8 +1,6 @@
 -- The view judged beside the fresh one, then its edits carried.
-use native.Mathlib.Omega.{arith}
-use borrow.Author.Rules.{rules}
 use Rattle.lines.specs.Engine.Starts.{lines_of, entries_of}
-use Rattle.calls.proofs.Comparing.{Beside, shown_words, judged_beside}
+use Rattle.calls.proofs.Comparing.{Beside, judged_beside}
 use Rattle.calls.proofs.put_back.compared.Goals as goal
 
 pub carry-requires : goal.carry-requires

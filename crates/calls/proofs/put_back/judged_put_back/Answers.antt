@@ -1,9 +1,6 @@
 -- What showing and putting back judge first, then the view beside the fresh one.
-use Prim.Native.Nat.{ℕ}
 use native.Mathlib.Omega.{arith}
 use mathlib.Core.Bool.{true}
-use mathlib.Core.List.{List}
-use borrow.Author.Rules.{rules}
 use Rattle.calls.specs.Judging.{judged_put_back}
 use Rattle.calls.specs.Engine.Parts.{RunReached}
 use Rattle.calls.proofs.Steps.{refused_settles, reached_run, reached_refused, comparable, compared_settles}

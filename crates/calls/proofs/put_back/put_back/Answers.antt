@@ -1,10 +1,7 @@
 -- Reply 1 where there is no room; else what the judging settles, with the work room cleared.
 use native.Mathlib.Omega.{arith}
-use mathlib.Core.List.{List}
-use borrow.Author.Rules.{rules}
 use borrow.Rule.Slice.PartMut.{drop_put}
-use Rattle.lines.specs.Nodes.{Line}
-use Rattle.calls.specs.Judging.{Judged, judged_put_back}
+use Rattle.calls.specs.Judging.{judged_put_back}
 use Rattle.calls.specs.Outcomes.{work_room, put_back_call}
 use Rattle.calls.specs.Theorems.Settled.{short_out, short_work, settled_call}
 use Rattle.calls.proofs.put_back.put_back.Goals as goal

@@ -1,10 +1,7 @@
 -- The program, the master, the run: each goes on, or its refusal is the whole judging's.
-use native.Mathlib.Omega.{arith}
-use borrow.Author.Rules.{rules}
-use Rattle.calls.specs.Judging.{judged_program, judged_master}
 use Rattle.calls.specs.Engine.Parts.{ProgramGoes, MasterGoes}
-use Rattle.calls.proofs.Steps.{refused_first, refused_later, program_goes, program_refused, master_goes, master_refused}
-use Rattle.calls.proofs.Steps.{run_goes, run_refused, runnable, stopped_reaches}
+use Rattle.calls.proofs.Steps.{program_goes, master_goes}
+use Rattle.calls.proofs.Steps.{run_refused, stopped_reaches}
 use Rattle.calls.proofs.reach.reach.Goals as goal
 
 pub returns-in-Refused-run_step : goal.returns-in-Refused-run_step

@@ -1,16 +1,13 @@
 -- The source stands at the foot while the program runs over it, so the run is the ground's.
 use mathlib.Core.Path.{◌≡◌, refl, sym}
-use mathlib.Core.List.{List}
 use native.Mathlib.Omega.{arith}
 use lib.ListN.{length, length-map}
-use borrow.Author.Rules.{rules}
-use Rattle.lines.specs.Nodes.{Line}
 use Rattle.lines.specs.Engine.Starts.{node_at, lines_of}
 use Rattle.values.specs.Engine.Words.{part}
 use Rattle.calls.specs.Engine.Parts.{source_words}
 use Rattle.calls.proofs.Places.{refused}
 use Rattle.calls.proofs.Grounded.{program_ready}
-use Rattle.calls.proofs.Sources.{run_space, loaded_foot, run_stops, run_goes}
+use Rattle.calls.proofs.Sources.{loaded_foot, run_stops, run_goes}
 use Rattle.calls.proofs.run_program.run_program.Goals as goal
 
 pub show-shown-requires-clause-ready_at : goal.show-shown-requires-clause-ready_at

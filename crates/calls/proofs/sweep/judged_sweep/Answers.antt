@@ -1,12 +1,9 @@
 -- The master as for showing, then both outputs.
-use Prim.Native.Nat.{ℕ}
 use native.Mathlib.Omega.{arith}
 use mathlib.Core.Bool.{false}
-use mathlib.Core.List.{List}
-use borrow.Author.Rules.{rules}
 use Rattle.calls.specs.Engine.Parts.{MasterGoes}
 use Rattle.calls.proofs.Steps.{master_goes, master_refused}
-use Rattle.calls.proofs.Swept.{refused_sweeps, swept_short, lines_room, numbers_room_holds, written_sweeps}
+use Rattle.calls.proofs.Swept.{refused_sweeps, swept_short, lines_room, written_sweeps}
 use Rattle.calls.proofs.sweep.judged_sweep.Goals as goal
 
 pub write_swept-requires : goal.write_swept-requires

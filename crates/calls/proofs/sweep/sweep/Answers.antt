@@ -1,6 +1,5 @@
 -- Reply 1 where an output is too short; else what the judging leaves.
 use native.Mathlib.Omega.{arith}
-use borrow.Author.Rules.{rules}
 use Rattle.calls.proofs.Swept.{short_first, short_second, swept_call}
 use Rattle.calls.proofs.sweep.sweep.Goals as goal
 

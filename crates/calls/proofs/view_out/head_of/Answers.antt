@@ -1,11 +1,8 @@
 -- By the half that the origin lies in, and whether there is such a line.
 use mathlib.Core.Path.{refl, sym, ◌∙◌}
 use mathlib.Core.Bool.{true, false}
-use mathlib.Core.List.{List}
 use Prim.Native.Nat.{◌%◌}
-use borrow.Author.Rules.{rules}
-use Rattle.lines.specs.Entries.{Entry}
-use Rattle.lines.specs.Nodes.{Line, no_line}
+use Rattle.lines.specs.Nodes.{no_line}
 use Rattle.lines.specs.Theorems.LinesAt.{line_at_map, no_line_at}
 use Rattle.lines.specs.Engine.Starts.{entries_of, node_at, lines_of}
 use Rattle.calls.proofs.WordLines.{head_is, program_head, master_head}

@@ -1,10 +1,4 @@
-use Prim.Native.Nat.{◌+◌, ◌-◌, ◌<◌}
-use native.Mathlib.Omega.{arith}
-use lib.ListN.{length, length-map}
-use borrow.Author.Rules.{rules}
-use Rattle.lines.specs.Theorems.WritingLines.{Fitting, Writing, writing_starts, writing_room, writing_goes_on, writing_ends}
-use Rattle.lines.specs.Engine.Starts.{node_at, lines_of}
-use Rattle.calls.specs.Engine.Parts.{handed_lines}
+use Rattle.lines.specs.Theorems.WritingLines.{writing_starts, writing_room, writing_goes_on, writing_ends}
 use Rattle.calls.proofs.HandedLines.{master_fits, master_at}
 use Rattle.calls.proofs.write_master.write_master.Goals as goal
 

@@ -1,12 +1,9 @@
 -- After `k` nodes their lines stand at the front.
-use Prim.Native.Nat.{◌+◌, ◌-◌, ◌<◌}
-use native.Mathlib.Omega.{arith}
-use lib.ListN.{length, length-map}
-use borrow.Author.Rules.{rules}
-use Rattle.lines.specs.Theorems.WritingLines.{Fitting, Writing, writing_starts, writing_room, writing_goes_on, writing_ends}
-use Rattle.lines.specs.Engine.Starts.{node_at, lines_of}
+use Prim.Native.Nat.{◌-◌}
+use lib.ListN.{length}
+use Rattle.lines.specs.Theorems.WritingLines.{Writing}
+use Rattle.lines.specs.Engine.Starts.{lines_of}
 use Rattle.calls.specs.Engine.Parts.{handed_lines}
-use Rattle.calls.proofs.HandedLines.{master_fits, master_at}
 use Rattle.calls.proofs.write_master.write_master.Given as goal
 
 abbrev pub invariant-loop-k : goal.invariant-loop-k

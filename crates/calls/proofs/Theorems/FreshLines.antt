@@ -30,7 +30,7 @@ use Rattle.runs.specs.Grounds.{numbered_from, line_of, lookup_in, whole, one_mas
 use Rattle.runs.proofs.Theorems.Bounds.{master_shows_good}
 use Rattle.runs.specs.Theorems.WholePrograms.{program_placed}
 use Rattle.calls.specs.Judging.{judged_program, judged_show}
-use Rattle.calls.specs.Theorems.Judged.{program_passed, master_passed, show_passed}
+use Rattle.calls.proofs.Theorems.Judged.{program_passed, master_passed, show_passed}
 use Rattle.calls.specs.Theorems.Origins.{All, shows_all}
 
 -- ## The entries of a program whose lines have the form

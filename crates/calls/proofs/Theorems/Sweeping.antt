@@ -23,8 +23,8 @@ use Rattle.calls.specs.Outcomes.{Outcome, outcome}
 use Rattle.calls.specs.Demands.{number_of, place_of, length_of, output_of, written}
 use Rattle.calls.specs.Sweeping.{enough_for_both, swept_into, sweep_call}
 use Rattle.calls.specs.SweepDemands.{second_of, numbers_written, numbers_given, SweepRefuses, SweepAnswers, SweepDemand}
-use Rattle.calls.specs.Theorems.Judged.{MasterPassed, master_passed, master_passes, rule_unmarked}
-use Rattle.calls.specs.Theorems.Replies.{master_refusing}
+use Rattle.calls.proofs.Theorems.Judged.{MasterPassed, master_passed, master_passes, rule_unmarked}
+use Rattle.calls.proofs.Theorems.Replies.{master_refusing}
 use Rattle.calls.specs.Theorems.Unique.{Same, same_outcome}
 use Rattle.calls.specs.Theorems.ReadingEnough.{master_read}
 

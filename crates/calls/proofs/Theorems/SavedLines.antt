@@ -13,7 +13,7 @@ use Rattle.runs.specs.Theorems.CountedViews.{standings_counted}
 use Rattle.calls.specs.Judging.{Judged, ran, judged_program, judged_master, judged_view, judged_standings, judged_put_back}
 use Rattle.calls.specs.Outcomes.{called, put_back_call}
 use Rattle.calls.specs.Demands.{SavedSame}
-use Rattle.calls.specs.Theorems.Judged.{view_passed, view_passes}
+use Rattle.calls.proofs.Theorems.Judged.{view_passed, view_passes}
 
 -- ## On lines
 

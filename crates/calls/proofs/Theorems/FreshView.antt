@@ -18,9 +18,9 @@ use Rattle.runs.proofs.Theorems.FreshView.{Unmarked, fresh_mark, one_unmarked, o
 use Rattle.runs.specs.Theorems.Inversion.{gives_inj}
 use Rattle.calls.specs.Judging.{ran, master_rule, judged_master, judged_show, judged_put_back}
 use Rattle.calls.specs.Outcomes.{outcome, enough, cleared, settled, called, show_call, put_back_call}
-use Rattle.calls.specs.Theorems.Judged.{master_passed, master_passes, master_shows, rule_unmarked, view_passes, standings_pass, show_passed}
-use Rattle.calls.specs.Theorems.Replies.{show_refusals, done_lines}
-use Rattle.calls.specs.Theorems.FreshLines.{fresh_writable, fresh_few, length_view}
+use Rattle.calls.proofs.Theorems.Judged.{master_passed, master_passes, master_shows, rule_unmarked, view_passes, standings_pass, show_passed}
+use Rattle.calls.proofs.Theorems.Replies.{show_refusals, done_lines}
+use Rattle.calls.proofs.Theorems.FreshLines.{fresh_writable, fresh_few, length_view}
 
 -- ## A view beside itself
 

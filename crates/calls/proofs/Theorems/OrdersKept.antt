@@ -15,10 +15,10 @@ use Rattle.runs.proofs.Theorems.OneMaster.{length_handed_back, one_handed_back}
 use Rattle.calls.specs.Judging.{judged_standings, judged_put_back}
 use Rattle.calls.specs.Outcomes.{put_back_call}
 use Rattle.calls.specs.Demands.{number_of, written, OrdersKept, KeepsOrders}
-use Rattle.calls.specs.Theorems.Judged.{standings_passed, master_passed, put_back_passed}
-use Rattle.calls.specs.Theorems.Replies.{put_back_refusals, by_outcome}
+use Rattle.calls.proofs.Theorems.Judged.{standings_passed, master_passed, put_back_passed}
+use Rattle.calls.proofs.Theorems.Replies.{put_back_refusals, by_outcome}
 use Rattle.calls.specs.Theorems.ShownNumbers.{line_is, handed_kind}
-use Rattle.calls.specs.Theorems.Returned.{returned_lines}
+use Rattle.calls.proofs.Theorems.Returned.{returned_lines}
 
 -- ## On lines
 

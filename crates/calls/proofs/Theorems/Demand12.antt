@@ -7,7 +7,7 @@ use Rattle.lines.specs.Theorems.PutAt.{put_front, front_behind}
 use Rattle.runs.specs.Results.{gives, stops}
 use Rattle.calls.specs.Judging.{Judged, judged_show, judged_put_back}
 use Rattle.calls.specs.Outcomes.{Outcome, outcome, enough, cleared, settled, called, show_call, put_back_call}
-use Rattle.calls.specs.Theorems.Replies.{by_outcome}
+use Rattle.calls.proofs.Theorems.Replies.{by_outcome}
 use Rattle.calls.specs.Demands.{number_of, length_of, output_of, RefusesRightly, ShowDemand1, PutDemand1, WritesRightly, ShowDemand2, PutDemand2}
 
 -- ## A call, by its judging

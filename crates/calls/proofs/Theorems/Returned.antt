@@ -23,9 +23,9 @@ use Rattle.runs.proofs.Theorems.SameView.{same_formed}
 use Rattle.calls.specs.Judging.{master_rule, judged_master, judged_standings, judged_show, judged_put_back}
 use Rattle.calls.specs.Outcomes.{outcome, show_call, put_back_call}
 use Rattle.calls.specs.Demands.{number_of, written}
-use Rattle.calls.specs.Theorems.Judged.{standings_passed, master_passed, view_passed, put_back_passed, master_passes}
-use Rattle.calls.specs.Theorems.Replies.{Refusing, show_refusing, put_back_refusals, by_outcome, done_lines}
-use Rattle.calls.specs.Theorems.FreshLines.{fields_of}
+use Rattle.calls.proofs.Theorems.Judged.{standings_passed, master_passed, view_passed, put_back_passed, master_passes}
+use Rattle.calls.proofs.Theorems.Replies.{Refusing, show_refusing, put_back_refusals, by_outcome, done_lines}
+use Rattle.calls.proofs.Theorems.FreshLines.{fields_of}
 
 -- ## On lines
 

@@ -8,10 +8,10 @@ use Rattle.calls.specs.Outcomes.{put_back_call}
 use Rattle.calls.specs.Demands.{written, fresh_lines, HasEdits}
 use Rattle.calls.specs.Sweeping.{sweep_call}
 use Rattle.calls.specs.SweepDemands.{numbers_given, DeletedInView, SweepsAfter}
-use Rattle.calls.specs.Theorems.Returned.{returned_passes}
+use Rattle.calls.proofs.Theorems.Returned.{returned_passes}
 use Rattle.calls.specs.Theorems.ClashSearch.{EditedOrNot, edited_or_not}
-use Rattle.calls.specs.Theorems.Demand3.{demand3}
-use Rattle.calls.specs.Theorems.Sweeping.{sweep_demand}
+use Rattle.calls.proofs.Theorems.Demand3.{demand3}
+use Rattle.calls.proofs.Theorems.Sweeping.{sweep_demand}
 
 -- a master's lines, the fresh view's, the edited one's, and the returned ones: deleted there is deleted in the view
 module _ (ls fs es rs : List Line) (has : HasEdits ls fs es rs) (n : ℕ) where

@@ -29,12 +29,12 @@ use Rattle.runs.proofs.Theorems.SameView.{same_formed, same_text_marks}
 use Rattle.runs.specs.Theorems.ViewLines.{Shows, view_shows, view_made, view_depth}
 use Rattle.calls.specs.Judging.{formed, keeps, ran, master_rule, judged_program, judged_master, judged_view, judged_standings, judged_show, judged_put_back}
 use Rattle.calls.specs.Outcomes.{Outcome, outcome, enough, cleared, show_call, put_back_call}
-use Rattle.calls.specs.Theorems.Judged.{on_after, formed_lines, keeps_fine, Holds, MasterPassed, master_passed, rule_unmarked, view_holds, master_passes, standings_pass}
-use Rattle.calls.specs.Theorems.FreshLines.{fresh_writable, length_view}
-use Rattle.calls.specs.Theorems.Returned.{Returned, returned_writable}
+use Rattle.calls.proofs.Theorems.Judged.{on_after, formed_lines, keeps_fine, Holds, MasterPassed, master_passed, rule_unmarked, view_holds, master_passes, standings_pass}
+use Rattle.calls.proofs.Theorems.FreshLines.{fresh_writable, length_view}
+use Rattle.calls.proofs.Theorems.Returned.{Returned, returned_writable}
 use Rattle.calls.specs.Demands.{number_of, place_of, written, FromProgram, FromMaster, Given, EditedLine, Acceptable}
 use Rattle.calls.specs.Demands.{Clashes, with_edit, HasEdits, SameLines, Answers, Demand3}
-use Rattle.calls.specs.Theorems.Demand12.{called_gives, called_stops}
+use Rattle.calls.proofs.Theorems.Demand12.{called_gives, called_stops}
 use Rattle.calls.specs.Theorems.ViewEdits.{edits_pass, pass_edits}
 use Rattle.calls.specs.Theorems.ShownNumbers.{line_is, number_copy, copy_or_made, shown_number, handed_kind}
 use Rattle.calls.specs.Theorems.EditedLines.{Edits, edits_marked, edited_edit, edit_edited, edit_says, edited_marks, says_same, same_says, edit_leaves}

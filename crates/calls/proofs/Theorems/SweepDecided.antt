@@ -14,9 +14,9 @@ use Rattle.calls.specs.Outcomes.{Outcome, outcome}
 use Rattle.calls.specs.Demands.{number_of, place_of, length_of, output_of}
 use Rattle.calls.specs.Sweeping.{enough_for_both, sweep_call}
 use Rattle.calls.specs.SweepDemands.{SweepLike, second_of, SweepDemand}
-use Rattle.calls.specs.Theorems.Judged.{master_passed}
-use Rattle.calls.specs.Theorems.Replies.{master_refusing}
-use Rattle.calls.specs.Theorems.Sweeping.{sweep_short, sweep_stops, sweep_gives}
+use Rattle.calls.proofs.Theorems.Judged.{master_passed}
+use Rattle.calls.proofs.Theorems.Replies.{master_refusing}
+use Rattle.calls.proofs.Theorems.Sweeping.{sweep_short, sweep_stops, sweep_gives}
 
 -- an outcome is its five parts
 by_parts : (r : Outcome) {number place n : ℕ} {out numbers : List ℕ} → number_of r ≡ number → place_of r ≡ place → length_of r ≡ n → output_of r ≡ out → second_of r ≡ numbers

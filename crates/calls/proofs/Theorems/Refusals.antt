@@ -12,9 +12,9 @@ use Rattle.lines.specs.Theorems.PutAt.{length_put, put_front, front_behind}
 use Rattle.runs.specs.Results.{gives}
 use Rattle.calls.specs.Judging.{Judged, judged_show, judged_put_back}
 use Rattle.calls.specs.Outcomes.{Outcome, outcome, out_room, work_room, enough, cleared, called, show_call, put_back_call}
-use Rattle.calls.specs.Theorems.Replies.{Refusing, Refusal, show_refusals, put_back_refusals, by_outcome}
-use Rattle.calls.specs.Theorems.FreshLines.{show_short}
-use Rattle.calls.specs.Theorems.Returned.{put_back_short}
+use Rattle.calls.proofs.Theorems.Replies.{Refusing, Refusal, show_refusals, put_back_refusals, by_outcome}
+use Rattle.calls.proofs.Theorems.FreshLines.{show_short}
+use Rattle.calls.proofs.Theorems.Returned.{put_back_short}
 
 pub record Left (out work : List ℕ) (number n : ℕ) (out' work' : List ℕ) : Type 0 where
   -- 1: "output buffer or work slice too short", exactly then
