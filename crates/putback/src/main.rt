@@ -12,13 +12,13 @@ fn main(rt: HostRuntime) -> io::Result<()> {
     let mut master = [0u8; 9857];
     let mut program = [0u8; 6625];
     let mut view = [0u8; 9857];
-    let Ok(m) = read_file(&rt, "master.hex", &mut master) else {
+    let Ok(m) = read_file(&rt, b"master.hex", &mut master) else {
         return print_unreadable(&mut to);
     };
-    let Ok(p) = read_file(&rt, "program.hex", &mut program) else {
+    let Ok(p) = read_file(&rt, b"program.hex", &mut program) else {
         return print_unreadable(&mut to);
     };
-    let Ok(v) = read_file(&rt, "view.hex", &mut view) else {
+    let Ok(v) = read_file(&rt, b"view.hex", &mut view) else {
         return print_unreadable(&mut to);
     };
     let mut out = [0u8; OUT_ROOM];

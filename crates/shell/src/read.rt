@@ -25,10 +25,13 @@ pub fn read_up_to<R: Read>(reader: &mut R, buf: &mut [u8]) -> io::Result<usize>
     Ok(done)
 }
 
-// Fails where the file cannot be opened or read.
-pub fn read_file<R: Files>(files: &R, path: &str, buf: &mut [u8]) -> io::Result<usize>
+// Fails where the file cannot be opened or read; std opens paths that are text.
+pub fn read_file<R: Files>(files: &R, path: &[u8], buf: &mut [u8]) -> io::Result<usize>
     ensures { ReadsAtMost result buf.new }
 {
+    let Ok(path) = str::from_utf8(path) else {
+        return Err(io::Error::from(io::ErrorKind::InvalidInput));
+    };
     let mut file = fs::open(files, path)?;
     read_up_to(&mut file, buf)
 }

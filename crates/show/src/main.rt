@@ -11,10 +11,10 @@ fn main(rt: HostRuntime) -> io::Result<()> {
     let mut to = io::writer(&rt);
     let mut master = [0u8; 9857];
     let mut program = [0u8; 6625];
-    let Ok(m) = read_file(&rt, "master.hex", &mut master) else {
+    let Ok(m) = read_file(&rt, b"master.hex", &mut master) else {
         return print_unreadable(&mut to);
     };
-    let Ok(p) = read_file(&rt, "program.hex", &mut program) else {
+    let Ok(p) = read_file(&rt, b"program.hex", &mut program) else {
         return print_unreadable(&mut to);
     };
     let mut out = [0u8; OUT_ROOM];

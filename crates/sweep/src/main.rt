@@ -11,7 +11,7 @@ use std::io;
 fn main(rt: HostRuntime) -> io::Result<()> {
     let mut to = io::writer(&rt);
     let mut master = [0u8; 9857];
-    let Ok(m) = read_file(&rt, "master.hex", &mut master) else {
+    let Ok(m) = read_file(&rt, b"master.hex", &mut master) else {
         return print_unreadable(&mut to);
     };
     let mut out = [0u8; OUT_ROOM];
