@@ -19,7 +19,7 @@ use Rattle.values.specs.Values.{Value, is_from}
 use Rattle.values.specs.Standings.{Standing, untouched, changed, deleted, is_clash, first_of, rest_of, gathered, says, brings, hands_back}
 use Rattle.values.specs.Engine.Words.{standing_of, Named, AllNamed}
 use Rattle.values.proofs.Theorems.MergeLaws.{unit_left, unit_right}
-use Rattle.values.proofs.Theorems.Copies.{standing_at}
+use Rattle.values.specs.Theorems.Copies.{standing_at}
 use Rattle.runs.specs.Results.{gives, stops}
 use Rattle.runs.specs.Programs.{Transformation}
 use Rattle.runs.specs.Showing.{Shown}

@@ -59,7 +59,7 @@ module _ (E : List Entry) (L : List Line) (x : ℕ) where
       let kind = rw half at e in
       rw (half, q, kind)
 
-  -- the master's line of the number; where there is none, the fields of noLine
+  -- the master's line of the number; where there is none, the fields of no_line
   pub master_head : (l : Line) {h : Head} → x % 0x10000 < 0x8000 → get_or L (x % 0x10000) no_line ≡ l
       → h ≡ record { depth = x / 0x10000; kind = l.kind; mark = l.mark; number = x % 0x10000 } → headed h (word_line E L x).text ≡ word_line E L x
   unfolding node_of origin_of shown_line

@@ -198,7 +198,7 @@ SavedSame put =
     → (o : Shown) → showing (one_master ls) X ≡ gives o → let fresh = view (one_master ls) o.value in (es : List Line) → judged_view fresh edited ≡ gives es
     → (out work : List ℕ) → put master program edited out work ≡ put master program (file_of (counted_lines fresh es)) out work
 
--- ## Request #106 on bytes: "exactly `hi_lo` or `lo_hi`", whatever was put back
+-- ## Request #106 on bytes: "exactly `hi-lo` or `lo-hi`", whatever was put back
 
 -- the master's lines, and the returned master's
 pub record OrdersKept (ls returned : List Line) : Type 0 where

@@ -8,8 +8,8 @@
 --   ensure b s               goes on if b is true, and else stops with s
 --   cond b x y               x if b is true, else y
 --   elim b [ true ↦ x | .. ] by cases: x if b is true, and so on
---   r.field, p.0, p.1     a field of a record; the first and the second part of a pair
---   leb, ltb, eqb            at most, less, equal, as true or false; getD l i d is place i of l, and d behind its end
+--   r.field, p.0, p.1        a field of a record; the first and the second part of a pair
+--   leb, ltb, eqb            at most, less, equal, as true or false; get_or l i d is place i of l, and d behind its end
 --   A × B, A ⊎ B, A → ⊥      both; one of them; not A. (x : A) × B is: some x, with B of it
 use Rattle.std.specs.Prelude.{ℕ, Bool, true, false, List}
 use Rattle.lines.specs.declared.scan.File.TheVariants.{Program, Master, View}

@@ -12,6 +12,9 @@ use lines::verdict::Verdict;
 use lines::view::same_head;
 use runs::lookup::{has_byte, has_text, len_of, text_of_word};
 
+// The mark that spares a line its bytes: whether they are the shown ones is not asked.
+const CHANGED: u8 = 1;
+
 // The first line at which the view differs from the fresh one; given up inside a line's bytes at the first difference. The bytes are looked at in the order of `same_text`.
 pub fn difference(
     program: &[u8],
@@ -43,7 +46,7 @@ pub fn difference(
         if !same_head(view, v, head_of(program, entries, master, nodes, word)) {
             break 'lines Verdict::Fault(i);
         }
-        if mark_at(view, v) != 1 {
+        if mark_at(view, v) != CHANGED {
             let a = node_text(v);
             let fresh = text_of_word(program, entries, nodes, word);
             let n = text_len(view, a);

@@ -47,7 +47,7 @@ hi_lo = 0x68 ∷ 0x69 ∷ 0x2D ∷ 0x6C ∷ 0x6F ∷ []
 abbrev pub lo_hi : List ℕ
 lo_hi = 0x6C ∷ 0x6F ∷ 0x2D ∷ 0x68 ∷ 0x69 ∷ []
 
--- "exactly `hi_lo` or `lo_hi`"
+-- "exactly `hi-lo` or `lo-hi`"
 unfoldable pub is_order : List ℕ → Bool
 is_order t = same_text t hi_lo || same_text t lo_hi
 

@@ -7,7 +7,7 @@ use Rattle.lines.specs.Nodes.{Line, kind_rule, deleted_mark, line_at}
 use Rattle.lines.specs.Views.{first_difference, program_mark, counted_lines}
 use Rattle.lines.specs.Masters.{master_bounds, unmarked}
 use Rattle.values.specs.Values.{among, most_nodes}
-use Rattle.values.proofs.Theorems.Copies.{is_copy}
+use Rattle.values.specs.Theorems.Copies.{is_copy}
 use Rattle.runs.specs.declared.stop.Stop.{Stop}
 use Rattle.runs.specs.declared.stop.Stop.TheVariants.{Source, Size}
 use Rattle.runs.specs.Results.{Result, gives, stops}

@@ -16,7 +16,7 @@ use Rattle.lines.specs.Theorems.LineRules.{fields_at, rule_kind}
 use Rattle.lines.specs.Theorems.MasterRules.{unmarked_at}
 use Rattle.values.specs.Values.{Value}
 use Rattle.values.specs.Standings.{Standing, says, brings, is_edit, hands_back}
-use Rattle.values.proofs.Theorems.Copies.{is_copy}
+use Rattle.values.specs.Theorems.Copies.{is_copy}
 use Rattle.runs.specs.Results.{gives}
 use Rattle.runs.specs.Programs.{Transformation}
 use Rattle.runs.specs.Showing.{Shown}

@@ -1,4 +1,4 @@
--- No put-back writes other bytes than `hi_lo` or `lo_hi` into an order, or gives a node another kind.
+-- No put-back writes other bytes than `hi-lo` or `lo-hi` into an order, or gives a node another kind.
 use Rattle.std.specs.Prelude.{◌≡◌, true, List, length}
 use Rattle.std.proofs.Common.{sym, ap, ◌∙◌, inl, inr, arith}
 use Rattle.lines.specs.Nodes.{Line, nodes, line_at}

@@ -6,7 +6,8 @@ use Rattle.values.specs.Values.{Origin, master, program, Value, among, is_from}
 use Rattle.values.specs.Standings.{Standing, untouched, locked, deleted, sort, new_text, is_untouched, is_clash, same_standing, ◌⋓◌, all_over, gathered, hands_back}
 use Rattle.values.proofs.Theorems.MergeLaws.{unit_left, no_clash_left}
 use Rattle.values.proofs.Theorems.Gathering.{only}
-use Rattle.values.proofs.Theorems.Copies.{is_copy, standing_at, gathered_says}
+use Rattle.values.specs.Theorems.Copies.{is_copy, standing_at}
+use Rattle.values.proofs.Theorems.Copies.{gathered_says}
 use Rattle.values.proofs.Theorems.Edits.{hands_back_head}
 use Rattle.runs.specs.Results.{gives}
 use Rattle.runs.specs.Programs.{Transformation}

@@ -4,7 +4,7 @@ use Rattle.std.proofs.Common.{◌∙◌, ap, subst, not-suc-le-zero, arith, leng
 use Rattle.lines.specs.Lines.{push, cut}
 use Rattle.lines.specs.Engine.Starts.{line_length, first_line, starts_from}
 
--- the first line is the first lineLength bytes, and the others are cut from what is behind
+-- the first line is the first line_length bytes, and the others are cut from what is behind
 pub cut_first : (s : List ℕ) → 0 < length s → cut s ≡ first_line s ∷ cut (drop (line_length s) s)
 unfolding cut line_length push
 cut_first [] h = absurd (not-suc-le-zero h)

@@ -64,7 +64,7 @@ module _ (kind mark : ℕ) (text : List ℕ) (h : kind_rule kind mark text ≡ t
   pub rule_without_mark : kind_rule kind untouched_mark text ≡ true
   rule_without_mark = by_kind (λ k. kind_rule k untouched_mark text ≡ true) (text_rule text) (λ _ t. tag_rule text t) (order_rule text)
 
-  -- kind 03: "exactly `hi_lo` or `lo_hi`"
+  -- kind 03: "exactly `hi-lo` or `lo-hi`"
   pub rule_order : kind ≡ 3 → is_order text ≡ true
   rule_order = by_kind (λ k. k ≡ 3 → is_order text ≡ true) (λ e. absurd (omega arith)) (λ _ _ e. absurd (omega arith)) (λ o _. o)
 

@@ -16,7 +16,7 @@ use Rattle.lines.specs.Theorems.MasterRules.{unmarked_at}
 use Rattle.values.specs.Values.{Origin, master, program, Value, Lookup}
 use Rattle.values.specs.Standings.{Standing, sort, is_clash, ◌⋓◌, first_of, rest_of, gathered}
 use Rattle.values.proofs.Theorems.MergeLaws.{unit_right}
-use Rattle.values.proofs.Theorems.Copies.{standing_at}
+use Rattle.values.specs.Theorems.Copies.{standing_at}
 use Rattle.runs.specs.Programs.{Transformation}
 use Rattle.runs.specs.Reading.{whole_room}
 use Rattle.runs.specs.Showing.{Shown, show}

@@ -8,7 +8,7 @@ use Rattle.lines.specs.Theorems.Bools.{and_parts}
 use Rattle.values.specs.Values.{Origin, master, program, Node, Value, Lookup, element_of, is_from, most_nodes}
 use Rattle.values.specs.Standings.{Standing, untouched, first_of, rest_of, gathered}
 use Rattle.values.proofs.Theorems.MergeLaws.{unit_left, unit_right}
-use Rattle.values.proofs.Theorems.Copies.{standing_at}
+use Rattle.values.specs.Theorems.Copies.{standing_at}
 use Rattle.values.specs.Theorems.Forests.{reach, Walk, Forest}
 use Rattle.runs.specs.Grounds.{Numbered, numbered_from, line_of, lookup_in, whole, one_master, shown_line, view}
 use Rattle.runs.proofs.Theorems.OneMaster.{one_line}

@@ -6,7 +6,7 @@ use Rattle.lines.specs.Nodes.{untouched_mark}
 use Rattle.values.specs.Values.{Origin, master, program, Value, Lookup, bytes_of}
 use Rattle.values.specs.Standings.{Standing, untouched, sort, is_clash, first_of, rest_of, fitted, all_over}
 use Rattle.values.proofs.Theorems.Gathering.{take_first, take_rest, drop_rest}
-use Rattle.values.proofs.Theorems.Copies.{standing_at}
+use Rattle.values.specs.Theorems.Copies.{standing_at}
 use Rattle.paper.specs.Data.{◌⧺◌}
 use Rattle.paper.specs.Lines.{updating_of, element_updating_of}
 use Rattle.paper.specs.Theorems.Trees.{Trees, nil, txt, elm, ◌⊹◌, mark_for, paint}

@@ -12,7 +12,7 @@ use Rattle.values.specs.Values.{Origin, master, program, Value, Lookup, bytes_of
 use Rattle.values.specs.Standings.{Standing, sort, is_clash, ◌⋓◌, first_of, rest_of, gathered, brings}
 use Rattle.lines.specs.Theorems.Bools.{never, and_parts, neither, or_right}
 use Rattle.values.proofs.Theorems.Gathering.{only, drop_rest}
-use Rattle.values.proofs.Theorems.Copies.{is_copy, standing_at}
+use Rattle.values.specs.Theorems.Copies.{is_copy, standing_at}
 use Rattle.values.proofs.Theorems.Edits.{by_mark}
 use Rattle.runs.specs.Programs.{Transformation}
 use Rattle.runs.specs.Showing.{Shown}

@@ -17,7 +17,7 @@ use Rattle.lines.proofs.Theorems.CountedMarks.{counted_same, counted_free, count
 use Rattle.values.specs.Values.{Origin, master, program, Node, Value, Lookup, element_of, bytes_of}
 use Rattle.values.specs.Standings.{Standing, untouched, locked, changed, deleted, clash, sort, is_clash, first_of, rest_of, says, brings, hands_back}
 use Rattle.values.proofs.Theorems.Gathering.{drop_rest}
-use Rattle.values.proofs.Theorems.Copies.{standing_at}
+use Rattle.values.specs.Theorems.Copies.{standing_at}
 use Rattle.values.proofs.Theorems.Edits.{by_mark, brings_from_line, hands_back_head}
 use Rattle.runs.specs.Grounds.{Numbered, numbered_from, line_of, lines_in, lookup_in, whole, Ground, shown_line, view, brought, handed_back}
 use Rattle.runs.specs.Theorems.ViewLines.{shown_line_depth}

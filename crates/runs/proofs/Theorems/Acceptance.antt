@@ -8,7 +8,8 @@ use Rattle.values.specs.Values.{Value, among}
 use Rattle.values.specs.Standings.{Standing, untouched, locked, sort, is_untouched, is_clash, ◌⋓◌, gathered}
 use Rattle.values.proofs.Theorems.MergeLaws.{unit_left, unit_right, differ, no_clash_left}
 use Rattle.values.proofs.Theorems.Gathering.{only}
-use Rattle.values.proofs.Theorems.Copies.{is_copy, standing_at, untouched_cases, Silent, Speaks, silent_or_speaks, gathered_says, gathered_agrees, gathered_silent}
+use Rattle.values.specs.Theorems.Copies.{is_copy, standing_at}
+use Rattle.values.proofs.Theorems.Copies.{untouched_cases, Silent, Speaks, silent_or_speaks, gathered_says, gathered_agrees, gathered_silent}
 use Rattle.values.proofs.Theorems.Edits.{FromLine}
 use Rattle.runs.proofs.Theorems.Conservation.{lock}
 

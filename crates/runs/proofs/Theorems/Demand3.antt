@@ -9,7 +9,8 @@ use Rattle.lines.specs.Views.{mark_counted}
 use Rattle.values.specs.Values.{Origin, master, program, Value, Lookup, bytes_of, is_from, among}
 use Rattle.values.specs.Standings.{Standing, untouched, is_untouched, is_clash, ◌⋓◌, gathered, says, brings, is_edit, hands_back}
 use Rattle.values.proofs.Theorems.MergeLaws.{unit_left, unit_right}
-use Rattle.values.proofs.Theorems.Copies.{is_copy, standing_at, Silent, Speaks, silent_or_speaks}
+use Rattle.values.specs.Theorems.Copies.{is_copy, standing_at}
+use Rattle.values.proofs.Theorems.Copies.{Silent, Speaks, silent_or_speaks}
 use Rattle.values.proofs.Theorems.Edits.{edit_speaks, FromLine, brings_from_line, untouched_from_line, is_changed}
 use Rattle.values.proofs.Theorems.Edits.{brings_unchanged, hands_back_head, hands_back_text, hands_back_lock, hands_back_formed}
 use Rattle.runs.specs.Results.{gives}

@@ -5,7 +5,7 @@ use Rattle.lines.specs.Nodes.{Line, no_line}
 use Rattle.lines.specs.Theorems.Bools.{neither}
 use Rattle.values.specs.Values.{is_from}
 use Rattle.values.specs.Standings.{Standing}
-use Rattle.values.proofs.Theorems.Copies.{is_copy}
+use Rattle.values.specs.Theorems.Copies.{is_copy}
 use Rattle.values.proofs.Theorems.Edits.{hands_back_head}
 use Rattle.runs.specs.Grounds.{Numbered, numbered_from, line_of, lines_in, whole, one_master, handed_back, after}
 use Rattle.lines.specs.Masters.{depth_after, placed, bounds_from, master_bounds}

@@ -9,7 +9,7 @@ use Rattle.lines.specs.Views.{same_head, same_line, difference_from, first_diffe
 use Rattle.lines.specs.Theorems.Bools.{and_parts, or_other}
 use Rattle.lines.specs.Theorems.SameTexts.{same_text_sound}
 use Rattle.lines.specs.Theorems.KindRules.{element_mark}
-use Rattle.values.proofs.Theorems.Copies.{is_copy}
+use Rattle.values.specs.Theorems.Copies.{is_copy}
 use Rattle.runs.specs.Showing.{Shown}
 use Rattle.runs.specs.Grounds.{line_of, Ground, view}
 use Rattle.runs.specs.Theorems.ViewLines.{view_shows}

@@ -10,7 +10,8 @@ use Rattle.lines.specs.declared.verdict.Verdict.TheVariants.{Fine, Fault}
 use Rattle.values.specs.Values.{Value}
 use Rattle.values.specs.Standings.{Standing, untouched, sort, is_clash, gathered, hands_back}
 use Rattle.values.proofs.Theorems.MergeLaws.{unit_left}
-use Rattle.values.proofs.Theorems.Copies.{is_copy, gathered_silent}
+use Rattle.values.specs.Theorems.Copies.{is_copy}
+use Rattle.values.proofs.Theorems.Copies.{gathered_silent}
 use Rattle.values.proofs.Theorems.Edits.{hands_back_head}
 use Rattle.runs.specs.Showing.{Slots}
 use Rattle.runs.specs.PuttingBack.{SlotStandings, first_slot, rest_slots, gathered_slots}

@@ -3,7 +3,7 @@ use Rattle.std.specs.Prelude.{◌≡◌, refl, true, false, List, [], ◌∷◌,
 use Rattle.std.proofs.Common.{sym, ap, arith, eqb-true, eq-eqb}
 use Rattle.lines.specs.Nodes.{Line, line_at}
 use Rattle.values.specs.Values.{Origin, master, program, Value, is_from}
-use Rattle.values.proofs.Theorems.Copies.{is_copy}
+use Rattle.values.specs.Theorems.Copies.{is_copy}
 use Rattle.runs.specs.Grounds.{Numbered, line_of, Ground, shown_line, view}
 
 -- w shows node n as its line l has it

@@ -7,19 +7,9 @@ use Rattle.std.proofs.Math.Logic.{inl, inr}
 use Prim.Native.Nat.{ℕ, zero, suc}
 use Rattle.values.specs.Values.{Value, is_from}
 use Rattle.values.specs.Standings.{Standing, untouched, is_untouched, is_clash, ◌⋓◌, first_of, rest_of, gathered}
+use Rattle.values.specs.Theorems.Copies.{is_copy, standing_at}
 use Rattle.values.proofs.Theorems.MergeLaws.{by_untouched, unit_left, unit_right, merge_idem, merge_comm, merge_keeps, no_clash_right}
 use Rattle.values.proofs.Theorems.Gathering.{only}
-
--- whether the value's node i is a copy of the master's node n
-unfoldable pub is_copy : ℕ → Value → ℕ → Bool
-is_copy n [] i = false
-is_copy n (x ∷ v) zero = is_from n x.origin
-is_copy n (x ∷ v) (suc i) = is_copy n v i
-
--- the standing beside node i
-unfoldable pub standing_at : List Standing → ℕ → Standing
-standing_at ss zero = first_of ss
-standing_at ss (suc i) = standing_at (rest_of ss) i
 
 pub bool_cases : (b : Bool) → (b ≡ true) ⊎ (b ≡ false)
 bool_cases true = inl refl

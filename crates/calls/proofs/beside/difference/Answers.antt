@@ -14,7 +14,7 @@ use Rattle.lines.specs.Engine.Writes.{headed}
 use Rattle.calls.proofs.WordLines.{view_depth}
 use Rattle.calls.proofs.Differing.{here, text_decides}
 use Rattle.calls.proofs.beside.difference.Goals as goal
-use Rattle.calls.proofs.beside.difference.Goals.{then-mark_at-ne1+else-n-len_of+else-loop-j-test, else-mark_at-ne1}
+use Rattle.calls.proofs.beside.difference.Goals.{then-mark_at-ne-CHANGED+else-n-len_of+else-loop-j-test, else-mark_at-ne-CHANGED}
 
 -- the head found for a fresh line stands for the line's own
 heads : (v : Line) {f : Line} {head : Head} {same : Bool} → headed head f.text ≡ f
@@ -47,12 +47,12 @@ lines-preserved c =
       of_fresh = omega arith;
       rest =
           (here _ _ _ _ c.requires.0 _ _ _ c.lines.invariant.rest).goes_on c.if-lines-i.false c.if-len-i-2.false
-          (elim c.if-mark_at-ne1.branch [
-            | then-mark_at-ne1+else-n-len_of+else-loop-j-test w ↦
-                text_decides _ _ _ _ _ same_heads (λ e. w.if-mark_at-ne1.true (c.mark_at.ensures ∙ e))
+          (elim c.if-mark_at-ne-CHANGED.branch [
+            | then-mark_at-ne-CHANGED+else-n-len_of+else-loop-j-test w ↦
+                text_decides _ _ _ _ _ same_heads (λ e. w.if-mark_at-ne-CHANGED.true (c.mark_at.ensures ∙ e))
                 w.node_text-a.ensures (w.text_of_word-fresh.ensures _)
                 ∙ text_whole _ _ w.loop-j.j w.loop-j-test.false w.loop-j.invariant.same
-            | else-mark_at-ne1 w ↦ line_changed _ _ same_heads (sym c.mark_at.ensures ∙ w.if-mark_at-ne1.false)
+            | else-mark_at-ne-CHANGED w ↦ line_changed _ _ same_heads (sym c.mark_at.ensures ∙ w.if-mark_at-ne-CHANGED.false)
           ]);
     }
 
@@ -74,12 +74,12 @@ pub returns-then-n-len_of : goal.returns-then-n-len_of
 returns-then-n-len_of c =
     let same_heads = heads _ c.head_of.ensures c.if-not-same_head.ensures in
     (here _ _ _ _ c.requires.0 _ _ _ c.lines.invariant.rest).differs c.if-lines-i.false c.if-len-i-2.false
-    (text_decides _ _ _ _ _ same_heads (λ e. c.if-mark_at-ne1.true (c.mark_at.ensures ∙ e)) c.node_text-a.ensures (c.text_of_word-fresh.ensures _)
+    (text_decides _ _ _ _ _ same_heads (λ e. c.if-mark_at-ne-CHANGED.true (c.mark_at.ensures ∙ e)) c.node_text-a.ensures (c.text_of_word-fresh.ensures _)
     ∙ length_differs _ _ c.text_len-n.ensures c.len_of.ensures c.if-n-len_of.true)
 
 pub returns-then-not-has_byte : goal.returns-then-not-has_byte
 returns-then-not-has_byte c =
     let same_heads = heads _ c.head_of.ensures c.if-not-same_head.ensures in
     (here _ _ _ _ c.requires.0 _ _ _ c.lines.invariant.rest).differs c.if-lines-i.false c.if-len-i-2.false
-    (text_decides _ _ _ _ _ same_heads (λ e. c.if-mark_at-ne1.true (c.mark_at.ensures ∙ e)) c.node_text-a.ensures (c.text_of_word-fresh.ensures _)
+    (text_decides _ _ _ _ _ same_heads (λ e. c.if-mark_at-ne-CHANGED.true (c.mark_at.ensures ∙ e)) c.node_text-a.ensures (c.text_of_word-fresh.ensures _)
     ∙ byte_differs _ _ _ refl refl (eqb-false _ _ (sym c.if-not-has_byte.ensures)))
