@@ -1,5 +1,6 @@
 -- The standings of the view's lines as words, and what the master's standings at the end come to: reply 11, or the lines handed back.
 use mathlib.Core.Path.{◌≡◌, refl, sym, ap, ap₂, subst, ◌∙◌}
+use Rattle.std.specs.Prelude.{None, Some}
 use mathlib.Core.Bool.{Bool, true, false, cond}
 use mathlib.Core.List.{List, [], ◌∷◌, map}
 use Prim.Native.Nat.{ℕ, zero, suc, ◌+◌, ◌-◌, ◌<◌}
@@ -8,7 +9,6 @@ use native.Mathlib.Omega.{arith}
 use lib.Dec.{eqb}
 use lib.ListN.{length, get_or}
 use borrow.Author.Tests.{eq-eqb, ne_eqb}
-use Rattle.lines.specs.declared.verdict.Verdict.TheVariants.{Fine, Fault}
 use Rattle.lines.specs.Texts.{same_text}
 use Rattle.lines.specs.Nodes.{Line, changed_mark, deleted_mark, no_line}
 use Rattle.lines.specs.Verdicts.{reply, first_from}
@@ -232,10 +232,10 @@ module _ (L : List Line) (X : Transformation) where
       clash_said : first_from is_clash 0 ss ≡ first_clash (standing_for (one_master L) X es) (numbered_from 0 L)
       clash_said = clash_is (standing_for (one_master L) X es) L ss places long
 
-      pub carried_clashes : (k : ℕ) → first_from is_clash 0 ss ≡ Fault k → judged_standings (one_master L) X es ≡ stops (reply 11 k)
+      pub carried_clashes : (k : ℕ) → first_from is_clash 0 ss ≡ Some k → judged_standings (one_master L) X es ≡ stops (reply 11 k)
       unfolding judged_standings keeps
       carried_clashes k e = rw (sym clash_said ∙ e)
 
-      pub carried_goes : first_from is_clash 0 ss ≡ Fine → judged_standings (one_master L) X es ≡ gives (handed_over L ss)
+      pub carried_goes : first_from is_clash 0 ss ≡ None → judged_standings (one_master L) X es ≡ gives (handed_over L ss)
       unfolding judged_standings keeps
       carried_goes e = rw (sym clash_said ∙ e) (ap gives (sym (lines_are (standing_for (one_master L) X es) L ss places)))

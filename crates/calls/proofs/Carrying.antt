@@ -1,12 +1,11 @@
 -- The edits carried into the master: what putting back asks of the work slice, and what its standings then say.
 use Prim.Native.Nat.{ℕ, ◌+◌, ◌≤◌, ◌<◌}
+use Rattle.std.specs.Prelude.{Option, None, Some, Ok, Err}
 use native.Mathlib.Omega.{arith}
 use mathlib.Core.Path.{◌≡◌, refl, sym, ap, subst, ◌∙◌}
 use mathlib.Core.List.{List, [], map}
 use mathlib.Core.Logic.{inl}
 use lib.ListN.{length, length-map}
-use Rattle.lines.specs.declared.verdict.Verdict.{Verdict}
-use Rattle.lines.specs.declared.verdict.Verdict.TheVariants.{Fine, Fault}
 use Rattle.lines.specs.Nodes.{Line}
 use Rattle.lines.specs.Entries.{Entry}
 use Rattle.lines.specs.Verdicts.{first_from}
@@ -22,33 +21,30 @@ use Rattle.runs.specs.Programs.{Transformation}
 use Rattle.runs.specs.Reading.{read_program}
 use Rattle.runs.specs.Showing.{Shown}
 use Rattle.runs.specs.Grounds.{one_master, showing}
-use Rattle.runs.specs.Engine.Runs.{made_by, Ready, value_only, marks_at, marks_to, PutSpace, Seen, PutBy}
-use Rattle.runs.specs.declared.slots.SlotWords.{SlotWords}
+use Rattle.runs.specs.Engine.Runs.{made_by, value_only, marks_at, marks_to, PutSpace, Seen, PutBy}
 use Rattle.runs.specs.Engine.SlotWords.{no_slots}
 use Rattle.runs.specs.Engine.Trees.{Stands}
 use Rattle.runs.specs.Theorems.WholePrograms.{program_placed}
 use Rattle.calls.specs.Judging.{judged_standings}
-use Rattle.calls.specs.Outcomes.{out_room, settled}
-use Rattle.calls.specs.declared.reply.Reply.{Reply}
-use Rattle.calls.specs.Engine.Parts.{replied, Settles, source_words, view_lines, brought_words, texts_of}
+use Rattle.calls.specs.Outcomes.{out_room}
+use Rattle.calls.specs.declared.refusal.Refusal.TheVariants.{Clash}
+use Rattle.calls.specs.Engine.Parts.{SettledBy, source_words, view_lines, brought_words, texts_of}
 use Rattle.calls.specs.Engine.Parts.{handed_lines, HandingRoom, Carriable, CarriedBack}
-use Rattle.calls.proofs.Grounded.{program_ready, same_lookup, source_value, no_slots_at, no_slots_bound, same_showing}
+use Rattle.calls.proofs.Grounded.{same_lookup, source_value, no_slots_at, no_slots_bound, same_showing}
 use Rattle.calls.proofs.ViewWords.{length_brought}
 use Rattle.calls.proofs.Carried.{brought_named, brought_standings, put_back_whole, brought_in, carried_clashes, carried_goes}
-use Rattle.calls.proofs.Steps.{written_settles}
+use Rattle.calls.proofs.Steps.{refused_settles, written_settles}
 
 -- what the standings at place 256 of w say, by their first clash: reply 11 at its place, or the lines that are handed back
-pub record Handed (E : List Entry) (L es : List Line) (w out : List ℕ) (first : Verdict) : Type 0 where
-  pub below : (n : ℕ) → first ≡ Fault n → n < 128
-  pub refuses : (n : ℕ) → first ≡ Fault n → (r : Reply) → r ≡ replied 11 n 0 → CarriedBack E L es out out r
-  pub short : first ≡ Fine → length (file_of (handed_lines L es w)) ≤ out_room
-  pub room : first ≡ Fine → HandingRoom L es w out
-  pub settles : first ≡ Fine → (out' : List ℕ) (end : ℕ) → WroteLines (handed_lines L es w) out out' end → (r : Reply) → r ≡ replied 0 0 end → CarriedBack E L es out out' r
+pub record Handed (E : List Entry) (L es : List Line) (w out : List ℕ) (first : Option ℕ) : Type 0 where
+  pub refuses : (n : ℕ) → first ≡ Some n → CarriedBack E L es out out (Err (Clash n))
+  pub room : first ≡ None → HandingRoom L es w out
+  pub settles : first ≡ None → (out' : List ℕ) (end : ℕ) → WroteLines (handed_lines L es w) out out' end → CarriedBack E L es out out' (Ok end)
 
 -- the standings put at place 256, and what any search for their first clash answers
 pub record Stood (E : List Entry) (L es : List Line) (w out : List ℕ) : Type 0 where
   pub inside : 256 + length L ≤ length w
-  pub searched : (n : ℕ) → n ≡ length L → (first : Verdict) → ((texts : ℕ → List ℕ) → first ≡ first_from is_clash 0 (standings_at texts w 256 n)) → Handed E L es w out first
+  pub searched : (n : ℕ) → n ≡ length L → (first : Option ℕ) → ((texts : ℕ → List ℕ) → first ≡ first_from is_clash 0 (standings_at texts w 256 n)) → Handed E L es w out first
 
 module _ {E : List Entry} {ends : List ℕ} {L es : List Line} {w out : List ℕ} (k : Carriable E ends L es w out) where
   abbrev fresh : List Line
@@ -93,15 +89,6 @@ module _ {E : List Entry} {ends : List ℕ} {L es : List Line} {w out : List ℕ
               (o.0.value, ap value_only (same_showing (made_by E) w₁ L k.runnable.few_lines foot X ∙ o.1), o.2);
         }
 
-    -- in the code's terms: the counts of starts, and slots that are none
-    pub put_asks : (n v : ℕ) → n ≡ length L → v ≡ length es → (slots : SlotWords) → slots ≡ no_slots → (marks : List ℕ) → length marks ≡ 512
-        → Ready E ends slots 0 12 × PutSpace w₁ marks slots 0 n 128 v 256 12 × Seen E L w₁ slots 0 0 n v
-    put_asks n v en ev slots none marks h = rw (en, ev, none) (program_ready k.runnable, put_space marks h, seen)
-
-    put_is : (n v : ℕ) → n ≡ length L → v ≡ length es → (slots : SlotWords) → slots ≡ no_slots → (marks w₂ marks₂ : List ℕ) → PutBy E L w₁ marks slots 0 0 n 128 v 256 w₂ marks₂
-        → PutBy E L w₁ marks no_slots 0 0 (length L) 128 (length es) 256 w₂ marks₂
-    put_is n v en ev slots none marks w₂ marks₂ h = rw (en, ev, none) at h
-
     -- ## What it leaves
 
     module _ {marks w₂ marks₂ : List ℕ} (put : PutBy E L w₁ marks no_slots 0 0 (length L) 128 (length es) 256 w₂ marks₂) (kept : length w₂ ≡ length w₁) where
@@ -111,14 +98,14 @@ module _ {E : List Entry} {ends : List ℕ} {L es : List Line} {w out : List ℕ
       room_for_standings : 256 + length L ≤ length w₂
       room_for_standings = let f = k.runnable.few_lines in let r = k.work_room in let s = long_work in omega arith
 
-      found_is : (n : ℕ) → n ≡ length L → (v : Verdict) → ((texts : ℕ → List ℕ) → v ≡ first_from is_clash 0 (standings_at texts w₂ 256 n)) → first_from is_clash 0 handed ≡ v
+      found_is : (n : ℕ) → n ≡ length L → (v : Option ℕ) → ((texts : ℕ → List ℕ) → v ≡ first_from is_clash 0 (standings_at texts w₂ 256 n)) → first_from is_clash 0 handed ≡ v
       found_is n e v h = sym (h (texts_of es) ∙ ap (λ (m : ℕ). first_from is_clash 0 (standings_at (texts_of es) w₂ 256 m)) e)
 
       long_handed : length handed ≡ length L
       unfolding standings_at
       long_handed = length-map (part w₂ 256 (length L)) (standing_of (texts_of es)) ∙ length_part w₂ 256 (length L) room_for_standings
 
-      clash_place : (n : ℕ) → first_from is_clash 0 handed ≡ Fault n → n < 128
+      clash_place : (n : ℕ) → first_from is_clash 0 handed ≡ Some n → n < 128
       clash_place n h = let b = fault_below (0 + length handed) (first_below is_clash 0 handed) n h in let l = long_handed in let f = k.runnable.few_lines in omega arith
 
       module _ (X : Transformation) (read : read_program E ≡ gives X) where
@@ -147,38 +134,30 @@ module _ {E : List Entry} {ends : List ℕ} {L es : List Line} {w out : List ℕ
             (put.meets (texts_of es) (subst (AllNamed (texts_of es)) (sym view_words) (brought_named es fresh)) tt X (length E) stands).0
             ∙ rw (same_lookup L, no_slots_at (made_by E) w₁, source_value (made_by E) w₁ L k.runnable.few_lines foot, view_brings, no_marks) refl
 
-        clash_refuses : (n : ℕ) → first_from is_clash 0 handed ≡ Fault n → (r : Reply) → r ≡ replied 11 n 0 → Settles (judged_standings (one_master L) X es) out out r
-        unfolding settled
-        clash_refuses n h r e work = rw (carried_clashes L X es o shows handed is_handed long_handed n h, e) refl
+        clash_refuses : (n : ℕ) → first_from is_clash 0 handed ≡ Some n → SettledBy (judged_standings (one_master L) X es) out out (Err (Clash n))
+        clash_refuses n h = let low = clash_place n h in refused_settles _ out (Clash n) (carried_clashes L X es o shows handed is_handed long_handed n h, omega arith)
 
-        lines_handed : first_from is_clash 0 handed ≡ Fine → judged_standings (one_master L) X es ≡ gives (handed_lines L es w₂)
+        lines_handed : first_from is_clash 0 handed ≡ None → judged_standings (one_master L) X es ≡ gives (handed_lines L es w₂)
         lines_handed h = carried_goes L X es o shows handed is_handed long_handed h
 
-        handed_settles : first_from is_clash 0 handed ≡ Fine → (out' : List ℕ) (end : ℕ) → WroteLines (handed_lines L es w₂) out out' end → (r : Reply) → r ≡ replied 0 0 end
-            → Settles (judged_standings (one_master L) X es) out out' r
-        handed_settles h out' end wrote r e work = rw (lines_handed h) (written_settles (handed_lines L es w₂) out out' end wrote r e work)
-
-      handed_short : first_from is_clash 0 handed ≡ Fine → length (file_of (handed_lines L es w₂)) ≤ out_room
+      handed_short : first_from is_clash 0 handed ≡ None → length (file_of (handed_lines L es w₂)) ≤ out_room
       handed_short h = k.short (handed_lines L es w₂) (lines_handed k.runnable.tree k.runnable.read h)
 
-      handing_room : first_from is_clash 0 handed ≡ Fine → HandingRoom L es w₂ out
+      handed_settles : first_from is_clash 0 handed ≡ None → (out' : List ℕ) (end : ℕ) → WroteLines (handed_lines L es w₂) out out' end → CarriedBack E L es out out' (Ok end)
+      handed_settles h out' end wrote X read = rw (lines_handed X read h) (written_settles (handed_lines L es w₂) out out' end wrote (handed_short h))
+
+      handing_room : first_from is_clash 0 handed ≡ None → HandingRoom L es w₂ out
       handing_room h = let s = handed_short h in let r = k.room in record { inside = room_for_standings; room = omega arith }
 
-      stands_handed : Stood E L es w₂ out
-      stands_handed =
+      pub standings_put : Stood E L es w₂ out
+      standings_put =
           record {
             inside = room_for_standings;
             searched = λ n e first h.
                 let found = found_is n e first h in
                 record {
-                  below = λ m q. clash_place m (found ∙ q);
-                  refuses = λ m q r a X read. clash_refuses X read m (found ∙ q) r a;
-                  short = λ q. handed_short (found ∙ q);
+                  refuses = λ m q X read. clash_refuses X read m (found ∙ q);
                   room = λ q. handing_room (found ∙ q);
-                  settles = λ q out' end wrote r a X read. handed_settles X read (found ∙ q) out' end wrote r a;
+                  settles = λ q. handed_settles (found ∙ q);
                 };
           }
-
-    pub standings_put : (n v : ℕ) → n ≡ length L → v ≡ length es → (slots : SlotWords) → slots ≡ no_slots → (marks w₂ marks₂ : List ℕ)
-        → PutBy E L w₁ marks slots 0 0 n 128 v 256 w₂ marks₂ → length w₂ ≡ length w₁ → Stood E L es w₂ out
-    standings_put n v en ev slots none marks w₂ marks₂ put kept = stands_handed (put_is n v en ev slots none marks w₂ marks₂ put) kept

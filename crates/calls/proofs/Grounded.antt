@@ -54,7 +54,7 @@ unfolding slots_at slots_to
 no_slots_at made w = refl
 
 pub no_slots_bound : (top : ℕ) → Bound no_slots top
-no_slots_bound top = record { four = (refl, refl, refl); few = omega arith; below = λ k h. absurd (not-suc-le-zero h); short = λ k h. absurd (not-suc-le-zero h) }
+no_slots_bound top = record { four = refl; few = omega arith; below = λ k h. absurd (not-suc-le-zero h); short = λ k h. absurd (not-suc-le-zero h) }
 
 no_slots_inside : Inside no_slots whole_room
 unfolding bytes_to

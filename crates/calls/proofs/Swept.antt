@@ -3,6 +3,7 @@ use Prim.Native.Nat.{ℕ, ◌≤◌, ◌<◌}
 use native.Mathlib.Omega.{arith}
 use mathlib.Core.Path.{◌≡◌, refl}
 use mathlib.Core.Bool.{false}
+use mathlib.Core.Logic.{inl, inr}
 use mathlib.Core.List.{List}
 use lib.ListN.{length}
 use borrow.Author.Tests.{le-leb, lt-leb}
@@ -12,50 +13,44 @@ use Rattle.lines.proofs.Theorems.Widths.{file_short}
 use Rattle.lines.specs.Engine.Writes.{WroteLines}
 use Rattle.sweeping.specs.Sweeping.{swept, new_numbers, number_file}
 use Rattle.sweeping.proofs.Theorems.Sound.{swept_few, swept_writable}
-use Rattle.sweeping.specs.Engine.Parts.{SweepRoom, NumbersRoom}
+use Rattle.sweeping.specs.Engine.Parts.{SweepRoom}
+use Rattle.calls.specs.declared.refusal.Refusal.{Refusal}
+use Rattle.calls.specs.declared.refusal.Refusal.TheVariants.{Room}
 use Rattle.calls.specs.declared.reply.Reply.{Reply}
+use Rattle.std.specs.Prelude.{Ok, Err, ◌⊎◌}
 use Rattle.calls.specs.Judging.{Judged, judged_master}
 use Rattle.calls.specs.Outcomes.{outcome, out_room}
 use Rattle.calls.specs.Sweeping.{numbers_room, enough_for_both, swept_into, sweep_call}
-use Rattle.calls.specs.Engine.Parts.{replied, Refuses, MasterGoes}
-use Rattle.calls.proofs.Steps.{L, lines_are, few_lines, form}
+use Rattle.calls.specs.Engine.Parts.{replied, Refuses, Sweeps, SweptBy, MasterGoes}
 
--- the reply and both outputs that a judging asks for
-abbrev SweptBy : Judged (List Line) → (out numbers out' numbers' : List ℕ) → Reply → Type 0
-SweptBy judged out numbers out' numbers' r = outcome r.number r.place r.length out' numbers' ≡ swept_into judged out numbers
-
-pub refused_sweeps : (judged : Judged (List Line)) (out numbers : List ℕ) (r : Reply) → Refuses judged r → SweptBy judged out numbers out numbers r
+pub refused_sweeps : (judged : Judged (List Line)) (out numbers : List ℕ) (r : Refusal) → Refuses judged r → SweptBy judged out numbers out numbers (Err r)
 unfolding swept_into
-refused_sweeps judged out numbers r h = rw (h.0, h.1) refl
+refused_sweeps judged out numbers r h = (h.1, rw h.0 refl)
 
-module _ {master places : List ℕ} {n : ℕ} (m : MasterGoes false master places n) where
-  pub swept_short : length (file_of (swept (L m))) ≤ out_room
-  swept_short = file_short (swept (L m)) (swept_writable (L m) (form m) (few_lines m)) (omega (arith, swept_few (L m), few_lines m))
+module _ {master : List ℕ} {L : List Line} (m : MasterGoes false master L) where
+  swept_short : length (file_of (swept L)) ≤ out_room
+  swept_short = file_short (swept L) (swept_writable L m.form (m.few)) (omega (arith, swept_few L, m.few))
 
-  pub lines_room : (out : List ℕ) → out_room ≤ length out → SweepRoom (L m) out
-  lines_room out h = record { few = few_lines m; room = omega (arith, swept_short) }
+  pub lines_room : (out : List ℕ) → out_room ≤ length out → SweepRoom L out
+  lines_room out h = record { few = m.few; room = omega (arith, swept_short) }
 
-  pub numbers_room_holds : (numbers : List ℕ) → numbers_room ≤ length numbers → NumbersRoom (L m) numbers
-  numbers_room_holds numbers h = record { few = few_lines m; room = omega (arith, few_lines m) }
-
-  pub written_sweeps : (out numbers out' numbers' : List ℕ) (end : ℕ) → WroteLines (swept (L m)) out out' end → numbers' ≡ put_at numbers 0 (number_file (new_numbers (L m)))
-      → (r : Reply) → r ≡ replied 0 0 end → SweptBy (judged_master false master) out numbers out' numbers' r
+  pub written_sweeps : (out numbers out' numbers' : List ℕ) (end : ℕ) → WroteLines (swept L) out out' end → numbers' ≡ put_at numbers 0 (number_file (new_numbers L))
+      → SweptBy (judged_master false master) out numbers out' numbers' (Ok end)
   unfolding swept_into
-  written_sweeps out numbers out' numbers' end w g r e = rw (m.judged, lines_are m, e, w.lines, w.behind, g) refl
+  written_sweeps out numbers out' numbers' end w g =
+      let end = w.behind in
+      (omega (arith, swept_short), rw (m.judged, w.lines, w.behind, g) refl)
 
 -- ## Reply 1, and with room
 
 module _ (master out numbers : List ℕ) (r : Reply) where
-  pub short_first : r ≡ replied 1 0 0 → length out < out_room → outcome r.number r.place r.length out numbers ≡ sweep_call master out numbers
-  unfolding sweep_call enough_for_both
-  short_first e h = rw (e, lt-leb out_room (length out) h) refl
-
-  pub short_second : r ≡ replied 1 0 0 → out_room ≤ length out → length numbers < numbers_room
+  pub short_either : r ≡ replied (Err Room) → (length out < out_room) ⊎ ((out_room ≤ length out) × (length numbers < numbers_room))
       → outcome r.number r.place r.length out numbers ≡ sweep_call master out numbers
   unfolding sweep_call enough_for_both
-  short_second e a h = rw (e, le-leb out_room (length out) a, lt-leb numbers_room (length numbers) h) refl
+  short_either e (inl h) = rw (e, lt-leb out_room (length out) h) refl
+  short_either e (inr h) = rw (e, le-leb out_room (length out) h.0, lt-leb numbers_room (length numbers) h.1) refl
 
   pub swept_call : {out' numbers' : List ℕ} → out_room ≤ length out → numbers_room ≤ length numbers
-      → SweptBy (judged_master false master) out numbers out' numbers' r → outcome r.number r.place r.length out' numbers' ≡ sweep_call master out numbers
+      → Sweeps (judged_master false master) out numbers out' numbers' r → outcome r.number r.place r.length out' numbers' ≡ sweep_call master out numbers
   unfolding sweep_call enough_for_both
   swept_call a b h = rw (le-leb out_room (length out) a, le-leb numbers_room (length numbers) b) h

@@ -1,23 +1,24 @@
 -- The line of a word: its head by the half that the origin lies in, its text from the lookup; and the lines of a view, word by word.
-use mathlib.Core.Path.{◌≡◌, refl, sym, ◌∙◌, ap}
-use mathlib.Core.Bool.{Bool, true, cond}
+use mathlib.Core.Path.{◌≡◌, refl, sym, ◌∙◌, ap, ap₂}
+use mathlib.Core.Bool.{true}
 use mathlib.Core.List.{List, [], ◌∷◌}
-use Prim.Native.Nat.{ℕ, zero, suc, ◌+◌, ◌/◌, ◌%◌, ◌≤◌, ◌<◌}
+use Prim.Native.Nat.{ℕ, zero, suc, ◌+◌, ◌/◌, ◌≤◌, ◌<◌}
 use native.Mathlib.Nat.{not-suc-le-zero, le_of_suc-le-suc}
 use native.Mathlib.Omega.{arith}
 use lib.Dec.{leb}
 use lib.ListN.{length, get_or, drop, length-map, drop_of_length-le}
-use borrow.Author.Tests.{lt-ltb, le-ltb, leb-true}
+use borrow.Author.Tests.{leb-true}
 use Rattle.lines.specs.declared.write.Head.{Head}
 use Rattle.lines.specs.Entries.{Entry}
-use Rattle.lines.specs.Nodes.{Line, untouched_mark, program_number, no_line}
+use Rattle.lines.specs.Nodes.{Line, no_line}
+use Rattle.lines.specs.Texts.{same_text}
 use Rattle.lines.specs.Theorems.Bools.{and_left, and_right}
 use Rattle.lines.specs.Theorems.Lists.{drop_one, map_at}
 use Rattle.lines.specs.Theorems.LinesAt.{line_at_map}
 use Rattle.lines.specs.Theorems.WritingLines.{Fitting}
 use Rattle.lines.specs.Engine.Writes.{headed}
-use Rattle.values.specs.Values.{Origin, master, program, Node, Value, element_of, bytes_of, shallow, within_bounds, most_nodes}
-use Rattle.values.specs.Engine.Words.{part, origin_of, node_of, value_at}
+use Rattle.values.specs.Values.{Origin, master, program, Node, Value, bytes_of, shallow, within_bounds, most_nodes}
+use Rattle.values.specs.Engine.Words.{part, node_of, value_at}
 use Rattle.values.specs.Theorems.Extents.{length_part, get_d_part}
 use Rattle.values.proofs.Theorems.WordLaws.{length_value}
 use Rattle.runs.specs.Grounds.{numbered_from, shown_line, view}
@@ -45,25 +46,14 @@ module _ (E : List Entry) (L : List Line) (x : ℕ) where
   pub word_text : {t : List ℕ} → t ≡ bytes_of (lookup_of L) (node_of (made_by E) x).origin → t ≡ (word_line E L x).text
   word_text q = q ∙ sym (text_shown _ origin)
 
+  -- a line's text beside it
+  pub same_as_word : (l : Line) {s t : List ℕ} → s ≡ l.text → t ≡ bytes_of (lookup_of L) (node_of (made_by E) x).origin → same_text s t ≡ same_text l.text (word_line E L x).text
+  same_as_word l p q = ap₂ same_text p (word_text q)
+
   -- a head of the word's line, with the word's text
   pub word_line_bytes : {h : Head} {t : List ℕ} → headed h (word_line E L x).text ≡ word_line E L x → t ≡ bytes_of (lookup_of L) (node_of (made_by E) x).origin
       → headed h t ≡ word_line E L x
   word_line_bytes {h} e q = ap (headed h) (word_text q) ∙ e
-
-  -- made by the program: an element or a text
-  pub program_head : (b : Bool) {h : Head} → 0x8000 ≤ x % 0x10000 → b ≡ element_of (lookup_of L) (node_of (made_by E) x).origin
-      → h ≡ record { depth = x / 0x10000; kind = cond b 2 1; mark = untouched_mark; number = program_number } → headed h (word_line E L x).text ≡ word_line E L x
-  unfolding node_of origin_of shown_line element_of
-  program_head b {h} o e q =
-      let half = le-ltb (x % 0x10000) 0x8000 o in
-      let kind = rw half at e in
-      rw (half, q, kind)
-
-  -- the master's line of the number; where there is none, the fields of no_line
-  pub master_head : (l : Line) {h : Head} → x % 0x10000 < 0x8000 → get_or L (x % 0x10000) no_line ≡ l
-      → h ≡ record { depth = x / 0x10000; kind = l.kind; mark = l.mark; number = x % 0x10000 } → headed h (word_line E L x).text ≡ word_line E L x
-  unfolding node_of origin_of shown_line
-  master_head l {h} o e q = rw (lt-ltb (x % 0x10000) 0x8000 o, q, line_is L (x % 0x10000), e)
 
 -- ## The words of a value
 

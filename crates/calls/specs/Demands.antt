@@ -1,8 +1,7 @@
 -- The three demands, and requests #101 and #106 on bytes, as predicates over any calls: any functions from the lent contents to an outcome.
 -- Ours meet them (Theorems/Demand12, Theorems/Demand3, Theorems/SavedLines, Theorems/OrdersKept); the trials do not meet the demands (crate trials).
-use Rattle.std.specs.Prelude.{ℕ, ◌<◌, ◌≡◌, true, false, cond, List, ◌↔◌, ◌⊎◌, eqb, length, take, drop}
+use Rattle.std.specs.Prelude.{ℕ, ◌<◌, ◌≡◌, true, false, cond, List, ◌↔◌, ◌⊎◌, eqb, length, take, drop, Ok}
 use Rattle.lines.specs.declared.scan.File.TheVariants.{View}
-use Rattle.lines.specs.declared.scan.Scan.TheVariants.{Lines}
 use Rattle.lines.specs.Files.{scan}
 use Rattle.lines.specs.Nodes.{Line, nodes, untouched_mark, changed_mark, deleted_mark, program_number, hi_lo, lo_hi, line_at}
 use Rattle.lines.specs.Verdicts.{Reply}
@@ -107,7 +106,7 @@ pub record Given (master program edited out work : List ℕ) : Type 0 where
   pub shows : showing (one_master lines) tree ≡ gives shown
   -- "and a well-formed view" one that passes 8
   pub count : ℕ
-  pub well_formed : scan View edited ≡ Lines count
+  pub well_formed : scan View edited ≡ Ok count
   -- "that differs from the fresh one only by marks on lines from the master and by the texts of lines marked changed":
   pub differs : OnlyEdits (nodes edited) (view (one_master lines) shown.value)
 

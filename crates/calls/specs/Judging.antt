@@ -11,12 +11,8 @@
 --   r.field, p.0, p.1        a field of a record; the first and the second part of a pair
 --   leb, ltb, eqb            at most, less, equal, as true or false; get_or l i d is place i of l, and d behind its end
 --   A × B, A ⊎ B, A → ⊥      both; one of them; not A. (x : A) × B is: some x, with B of it
-use Rattle.std.specs.Prelude.{ℕ, Bool, true, false, List}
+use Rattle.std.specs.Prelude.{ℕ, Bool, true, false, List, Option, None, Some, Result as Answer, Ok, Err}
 use Rattle.lines.specs.declared.scan.File.TheVariants.{Program, Master, View}
-use Rattle.lines.specs.declared.scan.Scan.{Scan}
-use Rattle.lines.specs.declared.scan.Scan.TheVariants.{Lines, Wrong}
-use Rattle.lines.specs.declared.verdict.Verdict.{Verdict}
-use Rattle.lines.specs.declared.verdict.Verdict.TheVariants.{Fine, Fault}
 use Rattle.lines.specs.Files.{scan}
 use Rattle.lines.specs.Nodes.{Line, nodes}
 use Rattle.lines.specs.Entries.{entries}
@@ -36,14 +32,14 @@ abbrev pub Judged : Type 0 → Type 0
 Judged A = Result Reply A
 
 -- lines of the form, and not too many
-unfoldable pub formed : ℕ → Scan → Judged (Unit {0})
-formed number (Lines n) = gives tt
-formed number (Wrong line) = stops (reply number line)
+unfoldable pub formed : ℕ → Answer ℕ ℕ → Judged (Unit {0})
+formed number (Ok n) = gives tt
+formed number (Err line) = stops (reply number line)
 
 -- a rule that every line keeps
-unfoldable pub keeps : ℕ → Verdict → Judged (Unit {0})
-keeps number Fine = gives tt
-keeps number (Fault place) = stops (reply number place)
+unfoldable pub keeps : ℕ → Option ℕ → Judged (Unit {0})
+keeps number None = gives tt
+keeps number (Some place) = stops (reply number place)
 
 -- a program that is a tree
 unfoldable pub is_tree : ℕ → Result ℕ Transformation → Judged Transformation
@@ -64,7 +60,7 @@ judged_program program = do
   is_tree 3 (read_program (entries program))  -- 3: program breaks the tree or a bound
 
 -- what reply 5 asks of a master, by whether a view is put back into it: "A master given to showing may carry marks"
-unfoldable pub master_rule : Bool → List Line → Verdict
+unfoldable pub master_rule : Bool → List Line → Option ℕ
 master_rule false ls = master_bounds ls
 master_rule true ls = earlier (master_bounds ls) (unmarked ls)
 

@@ -1,58 +1,56 @@
 // The program and the master: replies 2 to 5.
 ghost use Rattle.std.specs.Prelude.{◌≡◌, ◌≤◌, length};
-ghost use Rattle.lines.specs.Engine.Starts.{lines_of};
 ghost use Rattle.calls.specs.Judging.{master_rule};
 ghost use Rattle.calls.specs.Engine.Parts.{ProgramJudged, MasterJudged};
 
-use crate::reply::{Step, refuse};
-use lines::master::{bounds, marks};
-use lines::scan::{File, Scan, scan_lines};
-use lines::verdict::{Verdict, earlier_of};
-use runs::tree::{Checked, check_program};
+use crate::refusal::Refusal;
+use lines::entry::EntryLines;
+use lines::node::NodeLines;
+use lines::scan::{File, scan_lines};
+use lines::verdict::earlier_of;
+use runs::tree::check_program;
 
-// Leaves where each entry begins, and the place behind its subtree.
-pub fn judge_program(program: &[u8], entries: &mut [u16], ends: &mut [u8]) -> Step
-    requires { (128 ≤ length entries.old) × (96 ≤ length ends.old) }
-    ensures { ProgramJudged program.now entries.new ends.new result }
+// The program's entries, which begin at the places left in `starts`; leaves the place behind each one's subtree in `ends`.
+pub fn judge_program<'a>(
+    program: &'a [u8],
+    starts: &'a mut [u16],
+    ends: &mut [u8],
+) -> Result<EntryLines<'a>, Refusal>
+    requires { (128 ≤ length starts.old) × (96 ≤ length ends.old) }
+    ensures { ProgramJudged program.now ends.new result }
 {
-    let scanned = scan_lines(File::Program, program, entries);
-    match scanned {
-        Scan::Wrong(line) => Step::Refused(refuse(2, line)),
-        Scan::Lines(n) => {
-            let checked = check_program(program, &entries[0..n], ends);
-            match checked {
-                Checked::Fault(p) => Step::Refused(refuse(3, p as usize)),
-                Checked::Next(p) => Step::Goes(n),
-            }
-        }
+    let n = scan_lines(File::Program, program, starts).map_err(Refusal::ProgramLine)?;
+    let entries = EntryLines::new(program, &starts[0..n]);
+    match check_program(&entries, ends) {
+        Ok(_) => Ok(entries),
+        Err(entry) => Err(Refusal::ProgramTree(entry)),
     }
 }
 
 // A mark is a fault only where the master is put back to.
-fn master_fault(master: &[u8], nodes: &[u16], putting: bool) -> Verdict
-    ensures { result ≡ master_rule putting (lines_of master.now nodes.now) }
+fn master_fault(nodes: &NodeLines, putting: bool) -> Option<usize>
+    ensures { result ≡ master_rule putting nodes.now }
 {
-    let broken = bounds(master, nodes);
+    let misplaced = nodes.first_misplaced();
     if !putting {
-        return broken;
+        return misplaced;
     }
-    earlier_of(broken, marks(master, nodes))
+    earlier_of(misplaced, nodes.first_marked())
 }
 
-// Leaves where each line begins.
-pub fn judge_master(master: &[u8], nodes: &mut [u16], putting: bool) -> Step
-    requires { 128 ≤ length nodes.old }
-    ensures { MasterJudged putting master.now nodes.new result }
+// The master's lines, which begin at the places left in `starts`.
+pub fn judge_master<'a>(
+    master: &'a [u8],
+    starts: &'a mut [u16],
+    putting: bool,
+) -> Result<NodeLines<'a>, Refusal>
+    requires { 128 ≤ length starts.old }
+    ensures { MasterJudged putting master.now result }
 {
-    let scanned = scan_lines(File::Master, master, nodes);
-    match scanned {
-        Scan::Wrong(line) => Step::Refused(refuse(4, line)),
-        Scan::Lines(n) => {
-            let fault = master_fault(master, &nodes[0..n], putting);
-            match fault {
-                Verdict::Fault(line) => Step::Refused(refuse(5, line)),
-                Verdict::Fine => Step::Goes(n),
-            }
-        }
+    let n = scan_lines(File::Master, master, starts).map_err(Refusal::MasterLine)?;
+    let nodes = NodeLines::new(master, &starts[0..n]);
+    if let Some(line) = master_fault(&nodes, putting) {
+        return Err(Refusal::MasterRule(line));
     }
+    Ok(nodes)
 }

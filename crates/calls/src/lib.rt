@@ -5,6 +5,7 @@ pub mod beside;
 pub mod files;
 pub mod put_back;
 pub mod reach;
+pub mod refusal;
 pub mod reply;
 pub mod room;
 pub mod run_program;

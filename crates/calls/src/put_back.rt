@@ -1,99 +1,98 @@
 // The call put back.
 ghost use Rattle.std.specs.Prelude.{◌≡◌, List, ℕ, ◌+◌, ◌≤◌, length};
 ghost use Rattle.lines.specs.Verdicts.{first_from};
-ghost use Rattle.lines.specs.Engine.Starts.{lines_of, entries_of};
 ghost use Rattle.values.specs.Standings.{is_clash};
 ghost use Rattle.values.specs.Engine.Words.{standings_at};
 ghost use Rattle.calls.specs.Judging.{judged_put_back};
 ghost use Rattle.calls.specs.Outcomes.{out_room, outcome, put_back_call};
-ghost use Rattle.calls.specs.Engine.Parts.{put_back_room, Settles, Carriable, CarriedBack, Comparable, ComparedBack};
+ghost use Rattle.calls.specs.Engine.Parts.{put_back_room, Settles, SettledBy, Carriable, CarriedBack, Comparable, ComparedBack};
 
-use crate::reach::{Reached, reach};
-use crate::reply::{Reply, Step, done, refuse};
+use crate::reach::reach;
+use crate::refusal::Refusal;
+use crate::reply::Reply;
 use crate::room::{ENTRIES, HANDED, LINES, OUT_ROOM, SHOWN, WORK_ROOM};
 use crate::view_in::{bring_view, judge_view};
 use crate::write_master::write_master;
-use lines::verdict::Verdict;
-use runs::at::root;
+use lines::node::NodeLines;
+use runs::at::At;
+use runs::inputs::Inputs;
 use runs::put::{MARKS, put};
-use values::extents::fill;
+use values::extents::Extent;
 use values::standings::CLASH;
 
 // The first clash among the standings at HANDED.
-fn first_clash(work: &[u32], len: usize) -> Verdict
+fn first_clash(work: &[u32], len: usize) -> Option<usize>
     requires { 256 + len ≤ length work.now }
     ensures { (texts : ℕ → List ℕ) → result ≡ first_from is_clash 0 (standings_at texts work.now 256 len) }
 {
-    let mut k: usize = 0;
-    while k < len {
-        if work[HANDED + k] == CLASH {
-            return Verdict::Fault(k);
-        }
-        k += 1;
-    }
-    Verdict::Fine
+    let standings = &work[HANDED..HANDED + len];
+    standings.iter().position(|word| *word == CLASH)
 }
 
 // Reply 11, or the lines handed back: the source lies at place 0, the view's standings come to SHOWN, the master's to HANDED.
 fn carry(
-    program: &[u8],
-    entries: &[u16],
-    ends: &[u8],
-    master: &[u8],
-    nodes: &[u16],
-    view: &[u8],
-    lines: &[u16],
+    inputs: &Inputs,
+    view: &NodeLines,
     out: &mut [u8],
     work: &mut [u32],
-) -> Reply
-    requires { Carriable (entries_of program.now entries.now) ends.now (lines_of master.now nodes.now)
-        (lines_of view.now lines.now) work.old out.old }
-    ensures { CarriedBack (entries_of program.now entries.now) (lines_of master.now nodes.now)
-        (lines_of view.now lines.now) out.old out.new result }
+) -> Result<usize, Refusal>
+    requires { Carriable inputs.now.entries inputs.now.ends.now inputs.now.nodes view.now work.old out.old }
+    ensures { CarriedBack inputs.now.entries inputs.now.nodes view.now out.old out.new result }
 {
-    bring_view(program, entries, master, nodes, view, lines, work);
+    bring_view(inputs, view, work);
     let mut marks = [0u32; MARKS];
-    let at = root(nodes.len(), HANDED, SHOWN, lines.len());
-    put(program, entries, ends, master, nodes, work, &mut marks, at);
-    let clash = first_clash(work, nodes.len());
-    match clash {
-        Verdict::Fault(k) => refuse(11, k),
-        Verdict::Fine => done(write_master(master, nodes, view, lines, work, out)),
+    let brought = Extent {
+        start: SHOWN,
+        len: view.len(),
+    };
+    let count = inputs.nodes.len();
+    put(inputs, work, &mut marks, At::root(count, HANDED, brought));
+    if let Some(node) = first_clash(work, count) {
+        return Err(Refusal::Clash(node));
     }
+    Ok(write_master(&inputs.nodes, view, work, out))
 }
 
 // Replies 8 to 11: the view beside the fresh one, then its edits.
 fn compared(
-    program: &[u8],
-    entries: &[u16],
-    ends: &[u8],
-    master: &[u8],
-    nodes: &[u16],
-    len: usize,
+    inputs: &Inputs,
+    shown: usize,
     view: &[u8],
     out: &mut [u8],
     work: &mut [u32],
-) -> Reply
-    requires { Comparable (entries_of program.now entries.now) ends.now (lines_of master.now nodes.now) len work.old out.old }
-    ensures { ComparedBack (entries_of program.now entries.now) (lines_of master.now nodes.now)
-        view.now out.old out.new result }
+) -> Result<usize, Refusal>
+    requires { Comparable inputs.now.entries inputs.now.ends.now inputs.now.nodes shown work.old out.old }
+    ensures { ComparedBack inputs.now.entries inputs.now.nodes view.now out.old out.new result }
 {
-    let mut lines = [0u16; LINES];
-    let view_step = judge_view(program, entries, master, nodes, work, len, view, &mut lines);
-    match view_step {
-        Step::Refused(reply) => reply,
-        Step::Goes(v) => carry(
-            program,
-            entries,
-            ends,
-            master,
-            nodes,
-            view,
-            &lines[0..v],
-            out,
-            work,
-        ),
-    }
+    let mut starts = [0u16; LINES];
+    let lines = judge_view(inputs, work, shown, view, &mut starts)?;
+    carry(inputs, &lines, out, work)
+}
+
+// The place behind the lines handed back.
+fn write_handed_back(
+    master: &[u8],
+    program: &[u8],
+    view: &[u8],
+    out: &mut [u8],
+    work: &mut [u32],
+) -> Result<usize, Refusal>
+    requires { (out_room ≤ length out.old) × (put_back_room ≤ length work.old) }
+    ensures { SettledBy (judged_put_back master.now program.now view.now) out.old out.new result }
+{
+    let mut starts = [0u16; LINES];
+    let mut ends = [0u8; ENTRIES];
+    let mut places = [0u16; LINES];
+    let reached = reach(
+        master,
+        program,
+        true,
+        &mut starts,
+        &mut ends,
+        &mut places,
+        work,
+    )?;
+    compared(&reached.inputs, reached.shown, view, out, work)
 }
 
 // What is judged once there is room; public, since a C form brings a work slice that suffices.
@@ -107,34 +106,10 @@ pub fn judged_put_back(
     requires { (out_room ≤ length out.old) × (put_back_room ≤ length work.old) }
     ensures { Settles (judged_put_back master.now program.now view.now) out.old out.new result }
 {
-    let mut entries = [0u16; LINES];
-    let mut ends = [0u8; ENTRIES];
-    let mut nodes = [0u16; LINES];
-    let reached = reach(
-        master,
-        program,
-        true,
-        &mut entries,
-        &mut ends,
-        &mut nodes,
-        work,
-    );
-    match reached {
-        Reached::Refused(reply) => reply,
-        Reached::Shown(e, n, len) => compared(
-            program,
-            &entries[0..e],
-            &ends[0..e],
-            master,
-            &nodes[0..n],
-            len,
-            view,
-            out,
-            work,
-        ),
-    }
+    Reply::of(write_handed_back(master, program, view, out, work))
 }
 
+// Stays: the test of room is not shared with the other calls; over a closure that is lent two slices its contract is longer than these lines.
 pub fn put_back(
     master: &[u8],
     program: &[u8],
@@ -145,13 +120,11 @@ pub fn put_back(
     ensures { outcome result.number result.place result.length out.new work.new
         ≡ put_back_call master.now program.now view.now out.old work.old }
 {
-    if out.len() < OUT_ROOM {
-        return refuse(1, 0);
+    if out.len() < OUT_ROOM || work.len() < WORK_ROOM {
+        return Reply::of(Err(Refusal::Room));
     }
-    if work.len() < WORK_ROOM {
-        return refuse(1, 0);
-    }
-    let reply = judged_put_back(master, program, view, out, &mut work[0..WORK_ROOM]);
-    fill(work, 0, WORK_ROOM, 0);
+    let room = &mut work[0..WORK_ROOM];
+    let reply = judged_put_back(master, program, view, out, room);
+    room.fill(0);
     reply
 }

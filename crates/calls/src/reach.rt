@@ -3,52 +3,40 @@ ghost use Rattle.std.specs.Prelude.{◌≤◌, length};
 ghost use Rattle.calls.specs.Engine.Parts.{show_room, ReachedBy};
 
 use crate::files::{judge_master, judge_program};
-use crate::reply::{Reply, Step};
+use crate::refusal::Refusal;
 use crate::run_program::run_program;
+use runs::inputs::Inputs;
 
-// How many entries, master nodes and shown nodes there are; or the refusal.
-#[derive(Clone, Copy)]
-pub enum Reached {
-    Shown(usize, usize, usize),
-    Refused(Reply),
+// What was run, and how many nodes are shown.
+#[derive(Drop)]
+pub struct Reached<'a> {
+    pub inputs: Inputs<'a>,
+    pub shown: usize,
 }
 
-// Leaves where entries and lines begin and subtrees end, and in the work slice the source and what is shown.
-pub fn reach(
-    master: &[u8],
-    program: &[u8],
+// The entries begin at the places left in `starts`, the master's lines at those in `places`; leaves in the work slice the source and what is shown.
+// Stays: three slices and no struct of them, whose fields could not be lent apart behind a reference.
+pub fn reach<'a>(
+    master: &'a [u8],
+    program: &'a [u8],
     putting: bool,
-    entries: &mut [u16],
-    ends: &mut [u8],
-    nodes: &mut [u16],
+    starts: &'a mut [u16],
+    ends: &'a mut [u8],
+    places: &'a mut [u16],
     work: &mut [u32],
-) -> Reached
-    requires in_bounds { (128 ≤ length entries.old) × (96 ≤ length ends.old) × (128 ≤ length nodes.old) }
+) -> Result<Reached<'a>, Refusal>
+    requires in_bounds { (128 ≤ length starts.old) × (96 ≤ length ends.old) × (128 ≤ length places.old) }
     requires show_room_in_bounds { show_room ≤ length work.old }
-    ensures { ReachedBy putting master.now program.now entries.new ends.new nodes.new work.new result }
+    ensures { ReachedBy putting master.now program.now work.new result }
 {
-    let program_step = judge_program(program, entries, ends);
-    match program_step {
-        Step::Refused(reply) => Reached::Refused(reply),
-        Step::Goes(e) => {
-            let master_step = judge_master(master, nodes, putting);
-            match master_step {
-                Step::Refused(reply) => Reached::Refused(reply),
-                Step::Goes(n) => {
-                    let run_step = run_program(
-                        program,
-                        &entries[0..e],
-                        &ends[0..e],
-                        master,
-                        &nodes[0..n],
-                        work,
-                    );
-                    match run_step {
-                        Step::Refused(reply) => Reached::Refused(reply),
-                        Step::Goes(len) => Reached::Shown(e, n, len),
-                    }
-                }
-            }
-        }
-    }
+    let entries = judge_program(program, starts, ends)?;
+    let nodes = judge_master(master, places, putting)?;
+    let ends = &ends[0..entries.len()];
+    let inputs = Inputs {
+        entries,
+        ends,
+        nodes,
+    };
+    let shown = run_program(&inputs, work)?;
+    Ok(Reached { inputs, shown })
 }

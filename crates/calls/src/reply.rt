@@ -1,6 +1,8 @@
-// What a call answers, and a step of its judging.
+// What a call answers.
 ghost use Rattle.std.specs.Prelude.{◌≡◌, ◌<◌};
-ghost use Rattle.calls.specs.Engine.Parts.{replied};
+ghost use Rattle.calls.specs.Engine.Parts.{replied, Fits};
+
+use crate::refusal::Refusal;
 
 #[derive(Clone, Copy)]
 pub struct Reply {
@@ -9,31 +11,23 @@ pub struct Reply {
     pub length: u16,
 }
 
-// How many lines or nodes there are, or the refusal.
-#[derive(Clone, Copy)]
-pub enum Step {
-    Goes(usize),
-    Refused(Reply),
-}
-
-pub fn refuse(number: u8, place: usize) -> Reply
-    requires { place < 0x10000 }
-    ensures { result ≡ replied number place 0 }
-{
-    Reply {
-        number,
-        place: place as u16,
-        length: 0,
-    }
-}
-
-pub fn done(length: usize) -> Reply
-    requires { length < 0x10000 }
-    ensures { result ≡ replied 0 0 length }
-{
-    Reply {
-        number: 0,
-        place: 0,
-        length: length as u16,
+impl Reply {
+    // Of a call that is done, with the length of what it wrote, or refused.
+    pub fn of(answer: Result<usize, Refusal>) -> Reply
+        requires { Fits answer }
+        ensures { result ≡ replied answer }
+    {
+        match answer {
+            Ok(length) => Reply {
+                number: 0,
+                place: 0,
+                length: length as u16,
+            },
+            Err(refusal) => Reply {
+                number: refusal.number(),
+                place: refusal.place() as u16,
+                length: 0,
+            },
+        }
     }
 }

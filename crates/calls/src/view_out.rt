@@ -2,39 +2,37 @@
 ghost use Rattle.std.specs.Prelude.{◌≡◌, ◌+◌, ◌≤◌, ◌<◌, ◌/◌, length};
 ghost use Rattle.lines.specs.Nodes.{untouched_mark};
 ghost use Rattle.lines.specs.Writing.{line_bytes};
-ghost use Rattle.lines.specs.Engine.Starts.{entries_of, lines_of};
 ghost use Rattle.lines.specs.Engine.Writes.{headed, Written, WroteLines};
 ghost use Rattle.calls.specs.Engine.Parts.{word_line, view_lines, ViewRoom};
 
 use crate::room::SHOWN;
-use lines::fields::{kind_at, mark_at};
+use lines::kind::{Kind, Mark};
 use lines::write::{Head, write_line};
-use runs::lookup::{PROGRAM, Text, is_element_word, text_of_word};
-use values::nodes::LEVEL;
+use runs::inputs::Inputs;
+use values::nodes::{WordOrigin, depth_of, origin_of};
 
 // A node's fields: those of the master's line of its number, or of what an entry of the program makes.
-pub fn head_of(program: &[u8], entries: &[u16], master: &[u8], nodes: &[u16], word: u32) -> Head
+#[tactic(auto, using(std::proofs::lemmas::List::get_or_past, crate::specs::Theorems::ShownNumbers::line_is), unfolding(runs::specs::Grounds::shown_line, values::specs::Values::element_of, values::specs::Engine::Words::node_of))]
+pub fn head_of(inputs: &Inputs, word: u32) -> Head
     requires { word / 0x10000 < 256 }
-    ensures { let line = word_line (entries_of program.now entries.now) (lines_of master.now nodes.now) word in
-        headed result line.text ≡ line }
+    ensures { let line = word_line inputs.now.entries inputs.now.nodes word in headed result line.text ≡ line }
 {
-    let depth = (word / LEVEL) as u8;
-    let origin = word % LEVEL;
-    if PROGRAM <= origin {
-        if is_element_word(program, entries, master, nodes, word) {
-            return unmarked_head(depth, 2, 0xFFFF);
+    let depth = depth_of(word) as u8;
+    match origin_of(word) {
+        WordOrigin::Master(number) if (number as usize) < inputs.nodes.len() => {
+            let line = inputs.nodes.line(number as usize);
+            Head {
+                depth,
+                kind: line.kind(),
+                mark: line.mark(),
+                number,
+            }
         }
-        return unmarked_head(depth, 1, 0xFFFF);
-    }
-    let n = origin as usize;
-    if nodes.len() <= n {
-        return unmarked_head(depth, 1, origin as u16);
-    }
-    Head {
-        depth,
-        kind: kind_at(master, nodes[n]),
-        mark: mark_at(master, nodes[n]),
-        number: origin as u16,
+        WordOrigin::Master(number) => unmarked_head(depth, Kind::Text as u8, number),
+        WordOrigin::Program(_) if inputs.is_element(word) => {
+            unmarked_head(depth, Kind::Element as u8, 0xFFFF)
+        }
+        WordOrigin::Program(_) => unmarked_head(depth, Kind::Text as u8, 0xFFFF),
     }
 }
 
@@ -44,53 +42,28 @@ fn unmarked_head(depth: u8, kind: u8, number: u16) -> Head
     Head {
         depth,
         kind,
-        mark: 0,
+        mark: Mark::Untouched as u8,
         number,
     }
 }
 
-fn write_word(
-    program: &[u8],
-    entries: &[u16],
-    master: &[u8],
-    nodes: &[u16],
-    word: u32,
-    out: &mut [u8],
-    pos: usize,
-) -> usize
+fn write_word(inputs: &Inputs, word: u32, out: &mut [u8], pos: usize) -> usize
     requires word_bound { word / 0x10000 < 256 }
-    requires word_in_bounds { pos + length (line_bytes (word_line (entries_of program.now entries.now) (lines_of master.now nodes.now) word)) ≤ length out.old }
-    ensures { let line = word_line (entries_of program.now entries.now) (lines_of master.now nodes.now) word in
+    requires word_in_bounds { pos + length (line_bytes (word_line inputs.now.entries inputs.now.nodes word)) ≤ length out.old }
+    ensures { let line = word_line inputs.now.entries inputs.now.nodes word in
         Written out.old out.new pos (line_bytes line) result }
 {
-    let head = head_of(program, entries, master, nodes, word);
-    let text = text_of_word(program, entries, nodes, word);
-    match text {
-        Text::Master(at) => write_line(out, pos, head, master, at),
-        Text::Program(at) => write_line(out, pos, head, program, at),
-        Text::Missing => write_line(out, pos, head, &program[0..0], 0),
-    }
+    write_line(out, pos, head_of(inputs, word), &inputs.text(word))
 }
 
 // The place behind the last line.
-pub fn write_view(
-    program: &[u8],
-    entries: &[u16],
-    master: &[u8],
-    nodes: &[u16],
-    work: &[u32],
-    len: usize,
-    out: &mut [u8],
-) -> usize
-    requires { ViewRoom (entries_of program.now entries.now) (lines_of master.now nodes.now) work.now len out.old }
-    ensures { let E = entries_of program.now entries.now in
-        WroteLines (view_lines E (lines_of master.now nodes.now) work.now len) out.old out.new result }
+pub fn write_view(inputs: &Inputs, work: &[u32], shown: usize, out: &mut [u8]) -> usize
+    requires { ViewRoom inputs.now.entries inputs.now.nodes work.now shown out.old }
+    ensures { WroteLines (view_lines inputs.now.entries inputs.now.nodes work.now shown) out.old out.new result }
 {
-    let mut pos: usize = 0;
-    let mut i: usize = 0;
-    while i < len {
-        pos = write_word(program, entries, master, nodes, work[SHOWN + i], out, pos);
-        i += 1;
+    let mut pos = 0;
+    for i in 0..shown {
+        pos = write_word(inputs, work[SHOWN + i], out, pos);
     }
     pos
 }

@@ -1,9 +1,7 @@
 -- The three files: the form of their lines, how many there may be, and what scanning answers.
-use Rattle.std.specs.Prelude.{ℕ, suc, ◌*◌, Bool, cond, ◌&&◌, List, [], ◌∷◌, ltb}
+use Rattle.std.specs.Prelude.{ℕ, suc, ◌*◌, Bool, cond, ◌&&◌, List, [], ◌∷◌, ltb, Result, Ok, Err}
 use Rattle.lines.specs.declared.scan.File.{File}
 use Rattle.lines.specs.declared.scan.File.TheVariants.{Program, Master, View}
-use Rattle.lines.specs.declared.scan.Scan.{Scan}
-use Rattle.lines.specs.declared.scan.Scan.TheVariants.{Lines, Wrong}
 use Rattle.lines.specs.Lines.{cut}
 use Rattle.lines.specs.Nodes.{node_line}
 use Rattle.lines.specs.Entries.{entry_line}
@@ -31,9 +29,9 @@ unfoldable pub longest_of : File → ℕ
 longest_of file = limit_of file * widest_of file
 
 -- how many lines there are, counted on from n; or the first that has not the form or is one too many
-unfoldable pub scan_from : (List ℕ → Bool) → ℕ → ℕ → List (List ℕ) → Scan
-scan_from form limit n [] = Lines n
-scan_from form limit n (c ∷ cs) = cond (ltb n limit && form c) (scan_from form limit (suc n) cs) (Wrong n)
+unfoldable pub scan_from : (List ℕ → Bool) → ℕ → ℕ → List (List ℕ) → Result ℕ ℕ
+scan_from form limit n [] = Ok n
+scan_from form limit n (c ∷ cs) = cond (ltb n limit && form c) (scan_from form limit (suc n) cs) (Err n)
 
-unfoldable pub scan : File → List ℕ → Scan
+unfoldable pub scan : File → List ℕ → Result ℕ ℕ
 scan file s = scan_from (form_of file) (limit_of file) 0 (cut s)

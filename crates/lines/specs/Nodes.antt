@@ -1,5 +1,9 @@
 -- Node lines (master and view): depth, kind, mark, number high byte, number low byte, length, then that many bytes (0 to 32).
-use Rattle.std.specs.Prelude.{ℕ, ◌+◌, ◌*◌, Bool, true, false, cond, ◌&&◌, ◌||◌, not, List, [], ◌∷◌, map, length, get_or, drop, leb, eqb}
+use Rattle.std.specs.Prelude.{ℕ, ◌+◌, ◌*◌, Bool, true, false, cond, ◌&&◌, ◌||◌, not, List, [], ◌∷◌, map, length, get_or, drop, leb, eqb, Option, None, Some}
+use Rattle.lines.specs.declared.kind.Kind.{Kind}
+use Rattle.lines.specs.declared.kind.Kind.TheVariants.{Text, Element, Order}
+use Rattle.lines.specs.declared.kind.Mark.{Mark}
+use Rattle.lines.specs.declared.kind.Mark.TheVariants.{Untouched, Changed, Deleted}
 use Rattle.lines.specs.Hex.{between, decode}
 use Rattle.lines.specs.Lines.{cut, is_line}
 use Rattle.lines.specs.Texts.{same_text}
@@ -23,6 +27,14 @@ deleted_mark = 2
 
 unfoldable pub is_marked : Line → Bool
 is_marked n = not (eqb n.mark untouched_mark)
+
+-- what a mark's byte says
+unfoldable pub mark_of : ℕ → Option Mark
+mark_of b = cond (eqb b untouched_mark) (Some Untouched) (cond (eqb b changed_mark) (Some Changed) (cond (eqb b deleted_mark) (Some Deleted) None))
+
+-- kinds: 01 a text, 02 an element, 03 a word order
+unfoldable pub kind_of : ℕ → Option Kind
+kind_of b = cond (eqb b 1) (Some Text) (cond (eqb b 2) (Some Element) (cond (eqb b 3) (Some Order) None))
 
 -- "Number FFFF means the node came from the program"
 abbrev pub program_number : ℕ

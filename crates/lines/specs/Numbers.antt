@@ -1,7 +1,5 @@
 -- Whole numbers, which test 14 compares: "an optional minus, then one to nine digits".
-use Rattle.std.specs.Prelude.{ℕ, ◌+◌, ◌*◌, ◌-◌, Bool, true, false, cond, ◌&&◌, List, [], ◌∷◌, ℤ, pos, neg_ℤ, length, drop, eqb}
-use Rattle.lines.specs.declared.numbers.Whole.{Whole}
-use Rattle.lines.specs.declared.numbers.Whole.TheVariants.{Number, Missing}
+use Rattle.std.specs.Prelude.{ℕ, ◌+◌, ◌*◌, ◌-◌, Bool, true, false, cond, ◌&&◌, List, [], ◌∷◌, ℤ, pos, neg_ℤ, length, drop, eqb, Option, None, Some}
 use Rattle.lines.specs.Hex.{between}
 use Rattle.lines.specs.Nodes.{all_of}
 
@@ -31,5 +29,5 @@ signed true n = neg_ℤ (pos n)
 signed false n = pos n
 
 -- "its exact signed value or that it has none"
-unfoldable pub whole_number : List ℕ → Whole
-whole_number text = cond (are_digits (digits_in text)) (Number (signed (has_minus text) (digits_value 0 (digits_in text)))) Missing
+unfoldable pub whole_number : List ℕ → Option ℤ
+whole_number text = cond (are_digits (digits_in text)) (Some (signed (has_minus text) (digits_value 0 (digits_in text)))) None

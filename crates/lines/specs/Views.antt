@@ -1,7 +1,5 @@
 -- A view beside the fresh one: replies 9 and 10, and the marks that count.
-use Rattle.std.specs.Prelude.{ℕ, suc, Bool, cond, ◌&&◌, ◌||◌, List, [], ◌∷◌, eqb}
-use Rattle.lines.specs.declared.verdict.Verdict.{Verdict}
-use Rattle.lines.specs.declared.verdict.Verdict.TheVariants.{Fine, Fault}
+use Rattle.std.specs.Prelude.{ℕ, suc, Bool, cond, ◌&&◌, ◌||◌, List, [], ◌∷◌, eqb, Option, None, Some}
 use Rattle.lines.specs.Nodes.{Line, untouched_mark, changed_mark, is_marked, program_number}
 use Rattle.lines.specs.Verdicts.{first_from}
 use Rattle.lines.specs.Texts.{same_text}
@@ -14,20 +12,20 @@ unfoldable pub same_line : Line → Line → Bool
 same_line v f = same_head v f && (eqb v.mark changed_mark || same_text v.text f.text)
 
 -- "first differing line; the shorter count", from line n on
-unfoldable pub difference_from : ℕ → List Line → List Line → Verdict
-difference_from n [] [] = Fine
-difference_from n [] (f ∷ fs) = Fault n
-difference_from n (v ∷ vs) [] = Fault n
-difference_from n (v ∷ vs) (f ∷ fs) = cond (same_line v f) (difference_from (suc n) vs fs) (Fault n)
+unfoldable pub difference_from : ℕ → List Line → List Line → Option ℕ
+difference_from n [] [] = None
+difference_from n [] (f ∷ fs) = Some n
+difference_from n (v ∷ vs) [] = Some n
+difference_from n (v ∷ vs) (f ∷ fs) = cond (same_line v f) (difference_from (suc n) vs fs) (Some n)
 
-unfoldable pub first_difference : List Line → List Line → Verdict
+unfoldable pub first_difference : List Line → List Line → Option ℕ
 first_difference view fresh = difference_from 0 view fresh
 
 -- reply 10: "a line with number FFFF has a mark", as written
 unfoldable pub program_marked : Line → Bool
 program_marked v = eqb v.number program_number && is_marked v
 
-unfoldable pub program_mark : List Line → Verdict
+unfoldable pub program_mark : List Line → Option ℕ
 program_mark view = first_from program_marked 0 view
 
 -- ## The mark that counts

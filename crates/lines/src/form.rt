@@ -6,33 +6,22 @@ ghost use Rattle.lines.specs.Nodes.{is_element, is_tag, is_order, kind_rule, nod
 ghost use Rattle.lines.specs.Entries.{text_form, operand_form, entry_form};
 
 use crate::hex::pair_at;
-use crate::table::{Class, Shape, class_of, row_of};
+use crate::kind::{Kind, Mark};
+use crate::table::{Shape, operand_shape};
 
 // `d` is a tag's pairs, with the line's 0A or without it.
+#[tactic(auto, using(crate::proofs::Forms::pairs), unfolding(crate::specs::Nodes::is_tag))]
 fn is_tag(d: &[u8]) -> bool
     ensures { result ≡ is_tag (decode d.now) }
 {
-    if d.len() < 2 {
-        return false;
-    }
-    let mut i: usize = 0;
-    while i + 1 < d.len() {
-        let b = pair_at(d, i);
-        if b < 0x21 {
-            return false;
-        }
-        if 0x7E < b {
-            return false;
-        }
-        i += 2;
-    }
-    true
+    d.len() >= 2 && (0..d.len() / 2).all(|i| matches!(pair_at(d, 2 * i), 0x21..=0x7E))
 }
 
+#[tactic(auto, unfolding(crate::specs::Nodes::is_element))]
 pub fn is_element(kind: u8) -> bool
     ensures { result ≡ is_element kind }
 {
-    kind == 2
+    kind == Kind::Element as u8
 }
 
 // `d` is a text's pairs, with the line's 0A or without it. Like every text it is compared by its length first, then from the last byte to the first.
@@ -42,9 +31,7 @@ fn is_word(d: &[u8], word: &[u8]) -> bool
     if d.len() / 2 != word.len() {
         return false;
     }
-    let mut j = word.len();
-    while 0 < j {
-        j -= 1;
+    for j in (0..word.len()).rev() {
         if pair_at(d, 2 * j) != word[j] {
             return false;
         }
@@ -53,37 +40,30 @@ fn is_word(d: &[u8], word: &[u8]) -> bool
 }
 
 // `d` is an order's pairs, with the line's 0A or without it.
+#[tactic(auto, unfolding(crate::specs::Nodes::is_order))]
 fn is_order(d: &[u8]) -> bool
     ensures { result ≡ is_order (decode d.now) }
 {
-    if is_word(d, b"hi-lo") {
-        return true;
-    }
-    is_word(d, b"lo-hi")
+    is_word(d, b"hi-lo") || is_word(d, b"lo-hi")
 }
 
 // What a kind asks of the mark and of the bytes, whose pairs are `d`.
+#[tactic(auto, using(std::proofs::lemmas::Bool::Decides::nat_tests), unfolding(crate::specs::Nodes::kind_rule, crate::specs::Nodes::kind_of, crate::specs::Nodes::mark_of, crate::specs::Nodes::is_element))]
 fn kind_rule(kind: u8, mark: u8, d: &[u8]) -> bool
     ensures { result ≡ kind_rule kind mark (decode d.now) }
 {
-    if 2 < mark {
+    let Some(mark) = Mark::of(mark) else {
         return false;
+    };
+    match Kind::of(kind) {
+        Some(Kind::Text) => true,
+        Some(Kind::Element) => mark != Mark::Changed && is_tag(d),
+        Some(Kind::Order) => is_order(d),
+        None => false,
     }
-    if kind == 1 {
-        return true;
-    }
-    if is_element(kind) {
-        if mark == 1 {
-            return false;
-        }
-        return is_tag(d);
-    }
-    if kind != 3 {
-        return false;
-    }
-    is_order(d)
 }
 
+#[tactic(auto, using(crate::proofs::Forms::pairs), unfolding(crate::specs::Nodes::node_form))]
 pub fn node_form(c: &[u8]) -> bool
     ensures { result ≡ node_form (decode c.now) }
 {
@@ -92,15 +72,13 @@ pub fn node_form(c: &[u8]) -> bool
         return false;
     }
     let len = pair_at(c, 10);
-    if n != 6 + len as usize {
-        return false;
-    }
-    if 32 < len {
+    if n != 6 + len as usize || 32 < len {
         return false;
     }
     kind_rule(pair_at(c, 2), pair_at(c, 4), &c[12..])
 }
 
+#[tactic(auto, using(crate::proofs::Forms::pairs), unfolding(crate::specs::Entries::text_form))]
 fn text_form(d: &[u8]) -> bool
     ensures { result ≡ text_form (decode d.now) }
 {
@@ -109,43 +87,31 @@ fn text_form(d: &[u8]) -> bool
         return false;
     }
     let len = pair_at(d, 0);
-    if 32 < len {
-        return false;
-    }
-    n == 1 + len as usize
+    len <= 32 && n == 1 + len as usize
 }
 
 // What a shape asks of the operand, whose pairs are `d`.
+#[tactic(auto, using(crate::proofs::Forms::pairs), unfolding(crate::specs::Entries::operand_form))]
 fn operand_form(shape: Shape, d: &[u8]) -> bool
-    ensures { result ≡ operand_form shape (decode d.now) }
+    ensures { result ≡ operand_form (Some shape) (decode d.now) }
 {
     match shape {
         Shape::Nothing => d.len() / 2 == 0,
         Shape::Text => text_form(d),
-        Shape::Tag => {
-            if !text_form(d) {
-                return false;
-            }
-            is_tag(&d[2..])
-        }
+        Shape::Tag => text_form(d) && is_tag(&d[2..]),
         Shape::Slot => d.len() / 2 == 1,
-        Shape::Missing => false,
     }
 }
 
+#[tactic(auto, using(crate::proofs::Forms::pairs), unfolding(crate::specs::Entries::entry_form, crate::specs::Entries::operand_form))]
 pub fn entry_form(c: &[u8]) -> bool
     ensures { result ≡ entry_form (decode c.now) }
 {
     if c.len() < 2 {
         return false;
     }
-    let operation = pair_at(c, 0);
-    match class_of(operation) {
-        Class::Unknown => false,
-        _ => {
-            let row = row_of(operation);
-            let shape = row.0;
-            operand_form(shape, &c[2..])
-        }
+    match operand_shape(pair_at(c, 0)) {
+        Some(shape) => operand_form(shape, &c[2..]),
+        None => false,
     }
 }

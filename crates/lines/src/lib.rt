@@ -2,14 +2,14 @@
 // operations, and the checks, comparisons and writing that need nothing but lines.
 #![tactic(auto)]
 
-pub mod fields;
+pub mod entry;
 pub mod form;
 pub mod hex;
-pub mod master;
+pub mod kind;
+pub mod node;
 pub mod numbers;
 pub mod scan;
 pub mod table;
-pub mod texts;
+pub mod text;
 pub mod verdict;
-pub mod view;
 pub mod write;

@@ -1,62 +1,32 @@
 // Whole numbers in texts, which test 14 compares.
-ghost use Rattle.std.specs.Prelude.{◌≡◌, true, cond, ◌<◌, drop};
+ghost use Rattle.std.specs.Prelude.{◌≡◌, true, ◌<◌, drop};
 ghost use Rattle.lines.specs.Numbers.{has_minus, are_digits, digits_value, signed as signed_of, whole_number};
-ghost use Rattle.lines.specs.Engine.Starts.{text_at};
 
-use crate::texts::{byte_at, text_len};
+use crate::text::Text;
 
-// A text's exact value, or it is no whole number.
-#[derive(Clone, Copy)]
-pub enum Whole {
-    Number(i32),
-    Missing,
-}
-
-fn has_minus(s: &[u8], at: u32) -> bool
-    ensures { result ≡ has_minus (text_at s.now at) }
+fn has_minus(text: &Text) -> bool
+    ensures { result ≡ has_minus text.now }
 {
-    if text_len(s, at) == 0 {
-        return false;
-    }
-    byte_at(s, at, 0) == 0x2D
+    text.len() != 0 && text.byte(0) == b'-'
 }
 
 // Whether the bytes from `from` on are one to nine digits.
-fn are_digits(s: &[u8], at: u32, from: u8) -> bool
-    ensures { result ≡ are_digits (drop from (text_at s.now at)) }
+fn are_digits(text: &Text, from: u8) -> bool
+    ensures { result ≡ are_digits (drop from text.now) }
 {
-    let n = text_len(s, at);
-    if n <= from {
-        return false;
-    }
-    if 9 < n - from {
-        return false;
-    }
-    let mut j = from;
-    while j < n {
-        let b = byte_at(s, at, j);
-        if b < 0x30 {
-            return false;
-        }
-        if 0x39 < b {
-            return false;
-        }
-        j += 1;
-    }
-    true
+    let n = text.len();
+    (1..=9).contains(&n.saturating_sub(from))
+        && (from..n).all(|j| (b'0'..=b'9').contains(&text.byte(j)))
 }
 
 // The value of the digits from `from` on.
-fn digits_value(s: &[u8], at: u32, from: u8) -> u32
-    requires { are_digits (drop from (text_at s.now at)) ≡ true }
-    ensures { result ≡ digits_value 0 (drop from (text_at s.now at)) }
+fn digits_value(text: &Text, from: u8) -> u32
+    requires { are_digits (drop from text.now) ≡ true }
+    ensures { result ≡ digits_value 0 (drop from text.now) }
 {
-    let n = text_len(s, at);
     let mut value: u32 = 0;
-    let mut j = from;
-    while j < n {
-        value = 10 * value + (byte_at(s, at, j) - 0x30) as u32;
-        j += 1;
+    for j in from..text.len() {
+        value = 10 * value + (text.byte(j) - b'0') as u32;
     }
     value
 }
@@ -65,19 +35,16 @@ fn signed(minus: bool, size: u32) -> i32
     requires { size < 1000000000 }
     ensures { result ≡ signed_of minus size }
 {
-    if minus {
-        return 0 - size as i32;
-    }
-    size as i32
+    if minus { -(size as i32) } else { size as i32 }
 }
 
-pub fn whole_number(s: &[u8], at: u32) -> Whole
-    ensures { result ≡ whole_number (text_at s.now at) }
+pub fn whole_number(text: &Text) -> Option<i32>
+    ensures { result ≡ whole_number text.now }
 {
-    let minus = has_minus(s, at);
+    let minus = has_minus(text);
     let from = minus as u8;
-    if !are_digits(s, at, from) {
-        return Whole::Missing;
+    if !are_digits(text, from) {
+        return None;
     }
-    Whole::Number(signed(minus, digits_value(s, at, from)))
+    Some(signed(minus, digits_value(text, from)))
 }

@@ -1,22 +1,14 @@
-// What a check of a file's lines answers.
+// What checks of a file's lines answer: the first line that breaks a rule, or none.
 ghost use Rattle.std.specs.Prelude.{◌≡◌};
 ghost use Rattle.lines.specs.Verdicts.{earlier};
 
-#[derive(Clone, Copy)]
-pub enum Verdict {
-    Fine,
-    Fault(usize),
-}
-
 // The fault that stands first: one reply may be asked for by two rules.
-pub fn earlier_of(a: Verdict, b: Verdict) -> Verdict
+#[tactic(auto, using(std::proofs::lemmas::Bool::Decides::nat_tests), unfolding(crate::specs::Verdicts::earlier))]
+pub fn earlier_of(a: Option<usize>, b: Option<usize>) -> Option<usize>
     ensures { result ≡ earlier a b }
 {
-    match a {
-        Verdict::Fine => b,
-        Verdict::Fault(i) => match b {
-            Verdict::Fine => a,
-            Verdict::Fault(j) => { if i <= j { a } else { b } }
-        },
+    match (a, b) {
+        (Some(i), Some(j)) => Some(i.min(j)),
+        _ => a.or(b),
     }
 }

@@ -3,11 +3,10 @@ ghost use Rattle.std.specs.Prelude.{◌≡◌, [], ◌∷◌, ◌+◌, ◌*◌, 
 ghost use Rattle.std.proofs.lemmas.List.Edits.{sets};
 ghost use Rattle.lines.specs.Hex.{encode};
 ghost use Rattle.lines.specs.Writing.{line_bytes};
-ghost use Rattle.lines.specs.Engine.Starts.{text_at};
 ghost use Rattle.lines.specs.Engine.Writes.{headed, Written};
 
-use crate::hex::{digit_at, hex_digit};
-use crate::texts::text_len;
+use crate::hex::hex_digit;
+use crate::text::Text;
 
 // A line's fields before its text.
 #[derive(Clone, Copy)]
@@ -18,7 +17,8 @@ pub struct Head {
     pub number: u16,
 }
 
-pub fn put_byte(out: &mut [u8], pos: usize, b: u8)
+#[tactic(auto, unfolding(crate::specs::Hex::encode))]
+fn put_byte(out: &mut [u8], pos: usize, b: u8)
     requires { pos + 2 ≤ length out.old }
     ensures { out.new ≡ sets out.old pos (encode (b ∷ [])) }
 {
@@ -26,34 +26,39 @@ pub fn put_byte(out: &mut [u8], pos: usize, b: u8)
     out[pos + 1] = hex_digit(b % 16);
 }
 
-// Digit by digit, as it stands there.
-fn put_text(out: &mut [u8], pos: usize, s: &[u8], at: u32)
-    requires { pos + 2 * length (text_at s.now at) ≤ length out.old }
-    ensures { out.new ≡ sets out.old pos (encode (text_at s.now at)) }
+#[tactic(auto, unfolding(crate::specs::Hex::encode))]
+pub fn put_bytes(out: &mut [u8], pos: usize, bytes: &[u8])
+    requires { pos + 2 * length bytes.now ≤ length out.old }
+    ensures { out.new ≡ sets out.old pos (encode bytes.now) }
 {
-    let n = 2 * text_len(s, at) as usize;
-    let from = at as usize + 2;
-    let mut j: usize = 0;
-    while j < n {
-        out[pos + j] = digit_at(s, from + j);
-        j += 1;
+    for (i, b) in bytes.iter().enumerate() {
+        put_byte(out, pos + 2 * i, *b);
     }
 }
 
-// The line of `head` and the text at `at` of `s`, from `pos` on; the place behind it.
-pub fn write_line(out: &mut [u8], pos: usize, head: Head, s: &[u8], at: u32) -> usize
-    requires { pos + length (line_bytes (headed head (text_at s.now at))) ≤ length out.old }
-    ensures { Written out.old out.new pos (line_bytes (headed head (text_at s.now at))) result }
+// Digit by digit, as it stands there.
+fn put_text(out: &mut [u8], pos: usize, text: &Text)
+    requires { pos + 2 * length text.now ≤ length out.old }
+    ensures { out.new ≡ sets out.old pos (encode text.now) }
 {
-    put_byte(out, pos, head.depth);
-    put_byte(out, pos + 2, head.kind);
-    put_byte(out, pos + 4, head.mark);
-    put_byte(out, pos + 6, (head.number / 256) as u8);
-    put_byte(out, pos + 8, (head.number % 256) as u8);
-    let n = text_len(s, at);
-    put_byte(out, pos + 10, n);
-    put_text(out, pos + 12, s, at);
-    let end = pos + 12 + 2 * n as usize;
+    for i in 0..2 * text.len() as u16 {
+        out[pos + i as usize] = text.digit(i);
+    }
+}
+
+// The line of `head` and `text`, from `pos` on; the place behind it.
+pub fn write_line(out: &mut [u8], pos: usize, head: Head, text: &Text) -> usize
+    requires { pos + length (line_bytes (headed head text.now)) ≤ length out.old }
+    ensures { Written out.old out.new pos (line_bytes (headed head text.now)) result }
+{
+    let [high, low] = head.number.to_be_bytes();
+    put_bytes(
+        out,
+        pos,
+        &[head.depth, head.kind, head.mark, high, low, text.len()],
+    );
+    put_text(out, pos + 12, text);
+    let end = pos + 12 + 2 * text.len() as usize;
     out[end] = 0x0A;
     end + 1
 }

@@ -3,7 +3,8 @@ ghost use Rattle.std.specs.Prelude.{◌≡◌, ◌+◌, ◌*◌};
 ghost use Rattle.meadcinder.specs.Forms.{packed, number_in, place_in, length_in, ShowsInC, PutsBackInC, SweepsInC};
 
 use calls::put_back::judged_put_back;
-use calls::reply::{Reply, refuse};
+use calls::refusal::Refusal;
+use calls::reply::Reply;
 use calls::room::{OUT_ROOM, PUT_BACK_ROOM, SHOW_ROOM};
 use calls::show::judged_show;
 use calls::sweep::sweep;
@@ -21,7 +22,7 @@ pub extern "C" fn meadcinder_show(master: &[u8], program: &[u8], out: &mut [u8])
     ensures { ShowsInC master.now program.now out.old (packed result out.new) }
 {
     if out.len() < OUT_ROOM {
-        return in_one(refuse(1, 0));
+        return in_one(Reply::of(Err(Refusal::Room)));
     }
     let mut work = [0u32; SHOW_ROOM];
     in_one(judged_show(master, program, out, &mut work))
@@ -37,7 +38,7 @@ pub extern "C" fn meadcinder_put_back(
     ensures { PutsBackInC master.now program.now view.now out.old (packed result out.new) }
 {
     if out.len() < OUT_ROOM {
-        return in_one(refuse(1, 0));
+        return in_one(Reply::of(Err(Refusal::Room)));
     }
     let mut work = [0u32; PUT_BACK_ROOM];
     in_one(judged_put_back(master, program, view, out, &mut work))

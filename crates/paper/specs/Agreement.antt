@@ -1,7 +1,5 @@
 -- What it means that the rules and section 3 of the paper agree: of showing, and of putting back once the calls have judged a program, a master and a view.
-use Rattle.std.specs.Prelude.{◌≡◌, true, List, [], ℕ, ◌≤◌, length}
-use Rattle.lines.specs.declared.verdict.Verdict.{Verdict}
-use Rattle.lines.specs.declared.verdict.Verdict.TheVariants.{Fine as Faultless, Fault}
+use Rattle.std.specs.Prelude.{◌≡◌, true, List, [], ℕ, ◌≤◌, length, Option, None, Some}
 use Rattle.lines.specs.Entries.{Entry}
 use Rattle.lines.specs.Nodes.{Line, kind_rule, deleted_mark, line_at}
 use Rattle.lines.specs.Views.{first_difference, program_mark, counted_lines}
@@ -42,15 +40,15 @@ pub record PassedTen (entries : List Entry) (X : Transformation) (ls edited : Li
   pub program : read_program entries ≡ gives X  -- 3
   pub few : length ls ≤ most_nodes  -- 4
   pub master_formed : Formed ls  -- 4
-  pub bounds : master_bounds ls ≡ Faultless  -- 5
-  pub plain : unmarked ls ≡ Faultless  -- 5
+  pub bounds : master_bounds ls ≡ None  -- 5
+  pub plain : unmarked ls ≡ None  -- 5
   pub shows : showing (one_master ls) X ≡ gives o  -- 6, 7
   pub formed : Formed edited  -- 8
-  pub same : first_difference edited (view (one_master ls) o.value) ≡ Faultless  -- 9
-  pub free : program_mark edited ≡ Faultless  -- 10
+  pub same : first_difference edited (view (one_master ls) o.value) ≡ None  -- 9
+  pub free : program_mark edited ≡ None  -- 10
 
 -- the rules, on these lines: the first clash, and what is handed back
-abbrev pub clash_of : Transformation → List Line → List Line → Verdict
+abbrev pub clash_of : Transformation → List Line → List Line → Option ℕ
 clash_of X ls edited = first_clash (standing_for (one_master ls) X edited) (numbered_from 0 ls)
 
 abbrev pub handed_back_by : Transformation → List Line → List Line → List Line
@@ -74,13 +72,13 @@ pub record Suspect (edited : List Line) (o : Shown) (n : ℕ) : Type 0 where
 -- the rules on a view as written, the paper on that view with the marks that count
 pub record PuttingBackAgrees (X : Transformation) (ls edited : List Line) (o : Shown) : Type 0 where
   -- where the rules have no clash, the paper with the strict guard hands back an S, and the lines handed back are S's,
-  pub accepted : clash_of X ls edited ≡ Faultless
+  pub accepted : clash_of X ls edited ≡ None
       → (S : Sequence) × (put_back_by strict_guard X ls (counted_view ls o edited) ≡ got (S, [])) × (handed_back_by X ls edited ≡ paper_lines (kinds_in ls) S)
   -- and where they have one, it fails
-  pub refused : (n : ℕ) → clash_of X ls edited ≡ Fault n → put_back_by strict_guard X ls (counted_view ls o edited) ≡ fail
+  pub refused : (n : ℕ) → clash_of X ls edited ≡ Some n → put_back_by strict_guard X ls (counted_view ls o edited) ≡ fail
   -- as printed it accepts whatever the strict one accepts, with the same result,
   pub printed : (r : Sequence × PairContext) → put_back_by strict_guard X ls (counted_view ls o edited) ≡ got r → put_back_by guard X ls (counted_view ls o edited) ≡ got r
   -- where it fails the rules have a clash,
-  pub failing : put_back_by guard X ls (counted_view ls o edited) ≡ fail → (n : ℕ) × (clash_of X ls edited ≡ Fault n)
+  pub failing : put_back_by guard X ls (counted_view ls o edited) ≡ fail → (n : ℕ) × (clash_of X ls edited ≡ Some n)
   -- and where it accepts a clash, the text in clash was compared, and deleted
-  pub apart : (r : Sequence × PairContext) → put_back_by guard X ls (counted_view ls o edited) ≡ got r → (n : ℕ) → clash_of X ls edited ≡ Fault n → Suspect edited o n
+  pub apart : (r : Sequence × PairContext) → put_back_by guard X ls (counted_view ls o edited) ≡ got r → (n : ℕ) → clash_of X ls edited ≡ Some n → Suspect edited o n

@@ -2,7 +2,7 @@
 -- How a program is read is no matter here; that it is read so, and stops there, is said both ways round in Theorems/Reading and Theorems/Faults.
 use Rattle.std.specs.Prelude.{◌≡◌, true, cond, ℕ, suc, ◌≤◌, length, take, eqb}
 use mathlib.Core.List.{List, [], ◌∷◌, ◌++◌, map, flatten, Memᴰ}
-use Rattle.lines.specs.Entries.{Entry, row_of, operand_form}
+use Rattle.lines.specs.Entries.{Entry, operand_shape, operand_form}
 use Rattle.runs.specs.Programs.{equals, Transformation, source, nothing, text, tag, slot, contents, within}
 use Rattle.runs.specs.Programs.{and_then, beside, each, choose, bind, Test, compares, tagged, is_element}
 
@@ -109,4 +109,4 @@ pub record FirstFault (entries : List Entry) (p : ℕ) : Type 0 where
 
 -- each operand has the shape that the table gives its operation
 abbrev pub Formed : List Entry → Type 0
-Formed entries = (e : Entry) → e ∈ entries → operand_form (row_of e.operation).0 e.operand ≡ true
+Formed entries = (e : Entry) → e ∈ entries → operand_form (operand_shape e.operation) e.operand ≡ true

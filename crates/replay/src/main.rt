@@ -2,21 +2,20 @@
 // line that says whether the lent places were left as promised (00) or not (01).
 #![tactic(auto)]
 
-ghost use Rattle.std.specs.Prelude.{◌<◌, ◌≤◌};
+ghost use Rattle.std.specs.Prelude.{◌≡◌, ◌≤◌, length, IfOk};
 
+use calls::put_back::put_back;
 use calls::reply::Reply;
 use calls::room::WORK_ROOM;
+use calls::show::show;
+use calls::sweep::sweep;
 use shell::numbers::number_bytes;
-use shell::print::{print_byte, print_first, print_reply};
+use shell::print::{print_answer, print_byte, print_first};
 use shell::read::read_up_to;
 use std::io;
 use std::io::{Read, Write};
 
-const SHOW: u8 = 1;
-
-const PUT_BACK: u8 = 2;
-
-const SWEEP: u8 = 4;
+const HEAD_BYTES: usize = 15;
 
 const MOST_BYTES: usize = 16384;
 
@@ -26,253 +25,187 @@ const BYTE_PATTERN: u8 = 0xA5;
 
 const WORK_PATTERN: u32 = 0x5A5A5A5A;
 
+// Why no more cases are run.
+#[derive(Drop)]
+enum Stop {
+    Ended,
+    Broken,
+    Failed(io::Error),
+}
+
+impl From<io::Error> for Stop {
+    fn from(error: io::Error) -> Stop {
+        Stop::Failed(error)
+    }
+}
+
+#[derive(Clone, Copy, PartialEq, Eq)]
+enum Call {
+    Show,
+    PutBack,
+    Sweep,
+}
+
+impl TryFrom<u8> for Call {
+    type Error = Stop;
+
+    fn try_from(byte: u8) -> Result<Call, Stop> {
+        match byte {
+            1 => Ok(Call::Show),
+            2 => Ok(Call::PutBack),
+            4 => Ok(Call::Sweep),
+            _ => Err(Stop::Broken),
+        }
+    }
+}
+
 // The call of a case, the rooms of what is lent to it, and the lengths of its files. Of `work` and `numbers` one is 0:
 // a sweep is lent a second output, the other calls a work slice.
-#[derive(Clone, Copy)]
+#[derive(Drop)]
 struct Head {
-    broken: bool,
-    call: u8,
+    call: Call,
     out: usize,
     work: usize,
     numbers: usize,
     master: usize,
     program: usize,
     view: usize,
+    ghost rooms: { (out ≤ 16384) × (work ≤ 20480) × (numbers ≤ 16384) },
+    ghost lengths: { (master ≤ 16384) × (program ≤ 16384) × (view ≤ 16384) },
 }
 
-const BROKEN: Head = Head {
-    broken: true,
-    call: 0,
-    out: 0,
-    work: 0,
-    numbers: 0,
-    master: 0,
-    program: 0,
-    view: 0,
-};
-
-fn two(high: u8, low: u8) -> usize
-    ensures { result < 0x10000 }
+// The size, where it is honoured.
+fn honoured(size: u32, most: usize) -> Result<usize, Stop>
+    ensures { IfOk result (λ n. n ≤ most) }
 {
-    256 * high as usize + low as usize
+    let size = size as usize;
+    if most < size {
+        return Err(Stop::Broken);
+    }
+    Ok(size)
 }
 
-fn four(a: u8, b: u8, c: u8, d: u8) -> usize {
-    0x10000 * two(a, b) + two(c, d)
+fn file_length(bytes: [u8; 2]) -> Result<usize, Stop>
+    ensures { IfOk result (λ n. n ≤ 16384) }
+{
+    honoured(u32::from(u16::from_be_bytes(bytes)), MOST_BYTES)
 }
 
-fn is_unknown(call: u8) -> bool {
-    match call {
-        SHOW | PUT_BACK | SWEEP => false,
-        _ => true,
+impl TryFrom<[u8; HEAD_BYTES]> for Head {
+    type Error = Stop;
+
+    fn try_from(bytes: [u8; HEAD_BYTES]) -> Result<Head, Stop> {
+        let call = Call::try_from(bytes[0])?;
+        let first = u32::from_be_bytes([bytes[1], bytes[2], bytes[3], bytes[4]]);
+        let second = u32::from_be_bytes([bytes[5], bytes[6], bytes[7], bytes[8]]);
+        let out = honoured(first, MOST_BYTES)?;
+        let (work, numbers) = match call {
+            Call::Show | Call::PutBack => (honoured(second, MOST_WORK)?, 0),
+            Call::Sweep => (0, honoured(second, MOST_BYTES)?),
+        };
+        Ok(Head {
+            call,
+            out,
+            work,
+            numbers,
+            master: file_length([bytes[9], bytes[10]])?,
+            program: file_length([bytes[11], bytes[12]])?,
+            view: file_length([bytes[13], bytes[14]])?,
+        })
     }
 }
 
-fn head_in(b: &[u8; 15]) -> Head {
-    let second = four(b[5], b[6], b[7], b[8]);
-    let mut head = Head {
-        broken: is_unknown(b[0]),
-        call: b[0],
-        out: four(b[1], b[2], b[3], b[4]),
-        work: second,
-        numbers: 0,
-        master: two(b[9], b[10]),
-        program: two(b[11], b[12]),
-        view: two(b[13], b[14]),
+// Whether all behind the first `written` is the pattern.
+fn is_untouched<T: PartialEq + Drop>(items: &[T], written: usize, pattern: T) -> bool {
+    items.iter().skip(written).all(|item| *item == pattern)
+}
+
+// What is lent to a call, filled with patterns.
+#[derive(Drop)]
+struct Lent {
+    out: [u8; MOST_BYTES],
+    work: [u32; MOST_WORK],
+    numbers: [u8; MOST_BYTES],
+}
+
+impl Lent {
+    // Whether nothing but what the reply may write was written, and the work slice left as promised; `written` is the
+    // length of the number lines.
+    fn is_kept(&self, call: Call, reply: Reply, written: usize) -> bool {
+        let cleared = if call == Call::Sweep || reply.number == 1 {
+            0
+        } else {
+            WORK_ROOM
+        };
+        is_untouched(&self.out, reply.length as usize, BYTE_PATTERN)
+            && is_untouched(&self.numbers, written, BYTE_PATTERN)
+            && is_untouched(&self.work, cleared, WORK_PATTERN)
+            && self.work[..cleared].iter().all(|word| *word == 0)
+    }
+}
+
+// The bytes that fill the buffer, if as many come.
+fn filled<'a, R: Read>(input: &mut R, buf: &'a mut [u8]) -> Result<&'a [u8], Stop>
+    ensures { IfOk result (λ bytes. length bytes.now ≡ length buf.old) }
+{
+    if read_up_to(input, buf)? < buf.len() {
+        return Err(Stop::Broken);
+    }
+    Ok(buf)
+}
+
+// Reads the files of the case, calls and reports.
+fn run<R: Read, W: Write>(head: Head, input: &mut R, to: &mut W) -> Result<(), Stop> {
+    let mut master = [0u8; MOST_BYTES];
+    let mut program = [0u8; MOST_BYTES];
+    let mut view = [0u8; MOST_BYTES];
+    let master = filled(input, &mut master[..head.master])?;
+    let program = filled(input, &mut program[..head.program])?;
+    let view = filled(input, &mut view[..head.view])?;
+    let mut lent = Lent {
+        out: [BYTE_PATTERN; MOST_BYTES],
+        work: [WORK_PATTERN; MOST_WORK],
+        numbers: [BYTE_PATTERN; MOST_BYTES],
     };
-    if b[0] == SWEEP {
-        head.work = 0;
-        head.numbers = second;
-    }
-    head
-}
-
-// The head as it is, or broken where it asks for more than is honoured.
-fn honoured(head: Head) -> Head
-    ensures { (result.out ≤ 16384) × (result.work ≤ 20480) × (result.numbers ≤ 16384) × (result.master ≤ 16384) × (result.program ≤ 16384) × (result.view ≤ 16384) }
-{
-    if MOST_BYTES < head.out {
-        return BROKEN;
-    }
-    if MOST_WORK < head.work {
-        return BROKEN;
-    }
-    if MOST_BYTES < head.numbers {
-        return BROKEN;
-    }
-    if MOST_BYTES < head.master {
-        return BROKEN;
-    }
-    if MOST_BYTES < head.program {
-        return BROKEN;
-    }
-    if MOST_BYTES < head.view {
-        return BROKEN;
-    }
-    head
-}
-
-// Whether just n bytes came.
-fn filled<R: Read>(input: &mut R, buf: &mut [u8], n: usize) -> io::Result<bool> {
-    if buf.len() < n {
-        return Ok(false);
-    }
-    let came = read_up_to(input, &mut buf[0..n])?;
-    Ok(came == n)
-}
-
-fn bytes_are(s: &[u8], from: usize, value: u8) -> bool {
-    for i in from..s.len() {
-        if s[i] != value {
-            return false;
-        }
-    }
-    true
-}
-
-fn words_are(s: &[u32], from: usize, to: usize, value: u32) -> bool {
-    for i in from..to {
-        if s.len() <= i {
-            return false;
-        }
-        if s[i] != value {
-            return false;
-        }
-    }
-    true
-}
-
-// How many bytes of the second output the reply may write: the number lines, where a sweep was done.
-fn numbers_written(call: u8, reply: Reply, number_length: usize) -> usize {
-    if call != SWEEP || reply.number != 0 {
-        return 0;
-    }
-    number_length
-}
-
-fn work_kept(call: u8, number: u8, work: &[u32]) -> bool {
-    if call == SWEEP || number == 1 {
-        return words_are(work, 0, MOST_WORK, WORK_PATTERN);
-    }
-    if !words_are(work, 0, WORK_ROOM, 0) {
-        return false;
-    }
-    words_are(work, WORK_ROOM, MOST_WORK, WORK_PATTERN)
-}
-
-// Whether nothing but what the reply may write was written, and the work slice left as promised; `written` is the length
-// of the number lines.
-fn kept(call: u8, reply: Reply, written: usize, out: &[u8], work: &[u32], numbers: &[u8]) -> bool {
-    if !bytes_are(out, reply.length as usize, BYTE_PATTERN) {
-        return false;
-    }
-    if !bytes_are(numbers, written, BYTE_PATTERN) {
-        return false;
-    }
-    work_kept(call, reply.number, work)
-}
-
-fn report<W: Write>(
-    to: &mut W,
-    call: u8,
-    reply: Reply,
-    written: usize,
-    out: &[u8; 16384],
-    work: &[u32; 20480],
-    numbers: &[u8; 16384],
-) -> io::Result<()> {
-    print_reply(to, reply.number, reply.place, reply.length)?;
-    print_first(to, out, reply.length as usize)?;
-    print_first(to, numbers, written)?;
-    if kept(call, reply, written, out, work, numbers) {
-        print_byte(to, 0)
+    let out = &mut lent.out[..head.out];
+    let work = &mut lent.work[..head.work];
+    let numbers = &mut lent.numbers[..head.numbers];
+    let reply = match head.call {
+        Call::Show => show(master, program, out, work),
+        Call::PutBack => put_back(master, program, view, out, work),
+        Call::Sweep => sweep(master, out, numbers),
+    };
+    // How many bytes of the second output the reply may write: the number lines, where a sweep was done.
+    let written = if head.call == Call::Sweep && reply.number == 0 {
+        number_bytes(master)
     } else {
-        print_byte(to, 1)
-    }
+        0
+    };
+    print_answer(to, reply, &lent.out)?;
+    print_first(to, &lent.numbers, written)?;
+    let kept = lent.is_kept(head.call, reply, written);
+    print_byte(to, if kept { 0 } else { 1 })?;
+    Ok(())
 }
 
-fn broken<W: Write>(to: &mut W) -> io::Result<bool> {
-    print_byte(to, 0xFF)?;
-    Ok(false)
-}
-
-fn called(
-    call: u8,
-    master: &[u8],
-    program: &[u8],
-    view: &[u8],
-    out: &mut [u8],
-    work: &mut [u32],
-    numbers: &mut [u8],
-) -> Reply {
-    match call {
-        SHOW => calls::show::show(master, program, out, work),
-        SWEEP => calls::sweep::sweep(master, out, numbers),
-        _ => calls::put_back::put_back(master, program, view, out, work),
+fn next_case<R: Read, W: Write>(input: &mut R, to: &mut W) -> Result<(), Stop> {
+    let mut head = [0u8; HEAD_BYTES];
+    match read_up_to(input, &mut head)? {
+        0 => Err(Stop::Ended),
+        HEAD_BYTES => run(Head::try_from(head)?, input, to),
+        _ => Err(Stop::Broken),
     }
-}
-
-// Reads the files of the case, calls and reports; whether to go on.
-fn run<R: Read, W: Write>(input: &mut R, to: &mut W, asked: Head) -> io::Result<bool> {
-    let head = honoured(asked);
-    if head.broken {
-        return broken(to);
-    }
-    let m = head.master;
-    let p = head.program;
-    let v = head.view;
-    let mut master = [0u8; 16384];
-    let mut program = [0u8; 16384];
-    let mut view = [0u8; 16384];
-    if !filled(input, &mut master, m)? {
-        return broken(to);
-    }
-    if !filled(input, &mut program, p)? {
-        return broken(to);
-    }
-    if !filled(input, &mut view, v)? {
-        return broken(to);
-    }
-    let mut out = [BYTE_PATTERN; 16384];
-    let mut work = [WORK_PATTERN; 20480];
-    let mut numbers = [BYTE_PATTERN; 16384];
-    let o = head.out;
-    let w = head.work;
-    let s = head.numbers;
-    let number_length = number_bytes(&master[0..m]);
-    let reply = called(
-        head.call,
-        &master[0..m],
-        &program[0..p],
-        &view[0..v],
-        &mut out[0..o],
-        &mut work[0..w],
-        &mut numbers[0..s],
-    );
-    let written = numbers_written(head.call, reply, number_length);
-    report(to, head.call, reply, written, &out, &work, &numbers)?;
-    Ok(true)
-}
-
-// Runs the next case, if there is one; whether to go on.
-fn case<R: Read, W: Write>(input: &mut R, to: &mut W) -> io::Result<bool> {
-    let mut head = [0u8; 15];
-    let n = read_up_to(input, &mut head)?;
-    if n == 0 {
-        return Ok(false);
-    }
-    if n < 15 {
-        return broken(to);
-    }
-    run(input, to, head_in(&head))
 }
 
 fn main(rt: HostRuntime) -> io::Result<()> {
     let mut input = rt.reader();
     let mut to = io::writer(&rt);
     for _ in 0..u64::MAX {
-        if !case(&mut input, &mut to)? {
-            break;
+        match next_case(&mut input, &mut to) {
+            Ok(()) => {}
+            Err(Stop::Ended) => break,
+            Err(Stop::Broken) => return print_byte(&mut to, 0xFF),
+            Err(Stop::Failed(error)) => return Err(error),
         }
     }
     Ok(())

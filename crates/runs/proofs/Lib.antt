@@ -5,7 +5,6 @@ pub mod TreeCheckEnds
 pub mod TreeCheckWhole
 -- Slots and lookups
 pub mod SlotLaws
-pub mod Lookups
 -- Showing: the leaves, the rules' returns, one combinator a file
 pub mod Trees
 pub mod ShowSources

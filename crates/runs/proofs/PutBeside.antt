@@ -20,14 +20,14 @@ use Rattle.runs.specs.Results.{Result, gives}
 use Rattle.runs.specs.Programs.{Transformation, beside}
 use Rattle.runs.specs.Showing.{Slots, Shown, show}
 use Rattle.runs.specs.PuttingBack.{SlotStandings, back, value_of, put_back}
-use Rattle.runs.specs.Engine.Runs.{made_by, lookup_of, slots_at, PutSpace, Seen, PutBy}
+use Rattle.runs.specs.Engine.Runs.{Begun, made_by, lookup_of, slots_at, PutSpace, Seen, PutBy}
 use Rattle.runs.specs.Engine.Trees.{Stands}
 use Rattle.runs.specs.Theorems.Inversion.{on_pair}
-use Rattle.runs.proofs.Trees.{at_beside, here, ready_beside}
+use Rattle.runs.proofs.Trees.{at_beside}
 use Rattle.runs.proofs.SlotLaws.{slots_frame}
 use Rattle.runs.proofs.PutWords.{merged_comm, holds_length, holds_frame, holds_cut, holds_merged, kept_below}
 use Rattle.runs.specs.Theorems.RunAnswers.{Got, Halted}
-use Rattle.runs.proofs.PutRuns.{Begun, HandsBack, put_by, by_put, on_long, gives_long, got_size, not_stopped, got_seen, put_space}
+use Rattle.runs.proofs.PutRuns.{HandsBack, put_by, by_put, on_long, gives_long, got_size, not_stopped, got_seen, put_space}
 
 -- the rule, of the words' values and of a view as long as the two parts
 beside_rule : (look : Lookup) (e : ℕ) (Y Z : Transformation) (s s₁ s₂ : Slots) (v v₁ v₂ : Value) (m n : ℕ) (ss : List Standing) (us : SlotStandings)
@@ -51,9 +51,6 @@ module _ {entries : List Entry} {lines : List Line} {ends w marks : List ℕ} {s
 
   abbrev src : Value
   src = value_at (made_by entries) w start len
-
-  pub beside_levels : 2 ≤ levels
-  beside_levels = let s = (here (ready_beside begun.ready begun.op).0).some in omega arith
 
   beside_shown : (Y Z : Transformation) (m q : ℕ) → Stands entries Y (entry + 1) m → Stands entries Z m q
       → (a : Shown) × (b : Shown) × (show (lookup_of lines) Y env src ≡ gives a) × (show (lookup_of lines) Z env src ≡ gives b) × (length a.value + length b.value ≡ vlen)
@@ -88,10 +85,10 @@ module _ {entries : List Entry} {lines : List Line} {ends w marks : List ℕ} {s
   module _ {w₁ w₂ : List ℕ} {m n : ℕ} (x : Got entries lines w slots (entry + 1) start len top w₁ m)
       (y : Got entries lines w slots (get_or ends (entry + 1) 0) start len top w₂ n) where
     fits₁ : top + m ≤ length w₁
-    fits₁ = let e = begun.room.enough in let two = beside_levels in let s = x.small in omega arith
+    fits₁ = let e = begun.room.enough in let two = begun.two in let s = x.small in omega arith
 
     fits₂ : top + n ≤ length w₂
-    fits₂ = let e = begun.room.enough in let two = beside_levels in let s = y.small in omega arith
+    fits₂ = let e = begun.room.enough in let two = begun.two in let s = y.small in omega arith
 
     pub view_cuts : m + n ≡ vlen
     unfolding value_of
@@ -106,7 +103,7 @@ module _ {entries : List Entry} {lines : List Line} {ends w marks : List ℕ} {s
     pub beside_asks_second : {marks' : List ℕ} → length marks' ≡ length marks
         → PutSpace w₂ marks' slots start len (view + m) n top (levels - 1) × Seen entries lines w₂ slots (get_or ends (entry + 1) 0) start len n
     beside_asks_second k =
-        let two = beside_levels in
+        let two = begun.two in
         let c = view_cuts in (
           put_space begun.room y.kept k begun.room.below begun.room.short (omega arith) (omega arith) (omega arith),
           got_seen y fits₂ y.frame begun.room.below begun.room.bound,
@@ -115,7 +112,7 @@ module _ {entries : List Entry} {lines : List Line} {ends w marks : List ℕ} {s
     pub beside_asks_first : {w₃ marks' : List ℕ} → take top w₃ ≡ take top w₂ → length w₃ ≡ length w₂ → length marks' ≡ length marks
         → PutSpace w₃ marks' slots start len view m (top + 128) (levels - 1) × Seen entries lines w₃ slots (entry + 1) start len m
     beside_asks_first f l k =
-        let two = beside_levels in
+        let two = begun.two in
         let c = view_cuts in
         let b = begun.room.below in (
           put_space begun.room (l ∙ y.kept) k (omega arith) begun.room.short (omega arith) (omega arith) (omega arith),
@@ -128,7 +125,7 @@ module _ {entries : List Entry} {lines : List Line} {ends w marks : List ℕ} {s
         → w₅ ≡ put_at w₄ top (merged_words (part w₄ top len) (part w₄ (top + 128) len))
         → PutBy entries lines w marks slots entry start len view vlen top w₅ marks₄
     beside_back {w₃} {w₄} {w₅} {marks₃} {marks₄} long₄ p o c =
-        let two = beside_levels in
+        let two = begun.two in
         let b = begun.room.below in
         let k = view_cuts in
         let l₁ = length_part w₄ top len (omega arith) in

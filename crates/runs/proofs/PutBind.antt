@@ -19,25 +19,21 @@ use Rattle.runs.specs.Programs.{Transformation, bind}
 use Rattle.runs.specs.Reading.{no_entry}
 use Rattle.runs.specs.Showing.{Slots, show}
 use Rattle.runs.specs.PuttingBack.{SlotStandings, first_slot, rest_slots, back, put_back}
-use Rattle.runs.specs.Engine.Runs.{made_by, lookup_of, slots_at, PutSpace, Seen, PutBy}
+use Rattle.runs.specs.Engine.Runs.{Begun, made_by, lookup_of, slots_at, PutSpace, Seen, PutBy}
 use Rattle.runs.specs.Engine.SlotWords.{one_more}
 use Rattle.runs.specs.Theorems.Combinators.{bound}
 use Rattle.runs.specs.Engine.Trees.{Stands}
-use Rattle.runs.proofs.Trees.{at_bind, here, slots_left, ready_bind}
+use Rattle.runs.proofs.Trees.{at_bind, slots_left}
 use Rattle.runs.proofs.SlotLaws.{more_at, more_bound}
 use Rattle.runs.proofs.PutWords.{holds_copied, kept_below}
 use Rattle.runs.proofs.PutSlots.{SlotsHold, more_hold, less_hold}
-use Rattle.runs.proofs.PutRuns.{Begun, HandsBack, put_by, by_put, GivesLong}
+use Rattle.runs.proofs.PutRuns.{HandsBack, put_by, by_put, GivesLong}
 
 -- the rule, of the words' values
 bind_rule : (look : Lookup) (e k : ℕ) (Y : Transformation) (s s₁ : Slots) (v u : Value) (ss : List Standing) (us : SlotStandings) → s₁ ≡ bound k s v → u ≡ []
     → (let b = put_back look Y s₁ u ss (all_over untouched v ∷ us) in back (first_slot b.in_slots) (rest_slots b.in_slots)) ≡ put_back look (bind e k Y) s v ss us
 unfolding put_back
 bind_rule look e k Y s s₁ v u ss us a b = rw (a, b)
-
-pub bind_levels : {entries : List Entry} {lines : List Line} {ends w marks : List ℕ} {slots : SlotWords} {entry start len view vlen top levels : ℕ}
-    → Begun entries lines ends w marks slots entry start len view vlen top levels 0x0C → 2 ≤ levels
-bind_levels {start = start} {len = len} begun = let s = (here (ready_bind begun.ready begun.op begun.room.bound _ start len refl)).some in omega arith
 
 module _ {entries : List Entry} {lines : List Line} {ends w marks : List ℕ} {slots : SlotWords} {entry start len view vlen top levels : ℕ}
     (begun : Begun entries lines ends w marks slots entry start len view vlen top levels 0x0C)

@@ -6,6 +6,7 @@ use Prim.Native.Nat.{ℕ, ◌+◌, ◌-◌, ◌≤◌}
 use native.Mathlib.Numerals.{add-one}
 use native.Mathlib.Omega.{arith}
 use lib.ListN.{length, get_or, take}
+use Rattle.std.specs.Prelude.{Ok, Err}
 use Rattle.lines.specs.Entries.{Entry}
 use Rattle.lines.specs.Nodes.{Line}
 use Rattle.values.specs.Values.{Value, Lookup}
@@ -13,21 +14,20 @@ use Rattle.values.specs.Standings.{Standing}
 use Rattle.values.specs.Engine.Words.{value_at}
 use Rattle.values.proofs.Theorems.WordLaws.{value_frame}
 use Rattle.runs.specs.declared.stop.Stop.{Stop}
-use Rattle.runs.specs.declared.stop.Tested.TheVariants as tested
 use Rattle.runs.specs.declared.slots.SlotWords.{SlotWords}
 use Rattle.runs.specs.Results.{gives}
 use Rattle.runs.specs.Programs.{Transformation, choose, Test}
 use Rattle.runs.specs.Showing.{Slots, Shown, Answer, show, test}
 use Rattle.runs.specs.PuttingBack.{SlotStandings, Back, says_yes, put_back, put_back_test}
 use Rattle.runs.specs.Engine.Ends.{branch_at}
-use Rattle.runs.specs.Engine.Runs.{made_by, lookup_of, slots_at, yes_only, TestedBy, PutSpace, Seen, Asked, PutBy, TestPutBy}
+use Rattle.runs.specs.Engine.Runs.{Begun, made_by, lookup_of, slots_at, yes_only, TestedBy, PutSpace, Seen, Asked, PutBy, TestPutBy}
 use Rattle.runs.specs.Theorems.Combinators.{branch_run}
 use Rattle.runs.specs.Engine.Trees.{Stands, StandsTest}
 use Rattle.runs.specs.Theorems.Inversion.{no_gives, gives_inj, on_bind}
-use Rattle.runs.proofs.Trees.{at_choose, here, ready_choose, branch_stands}
+use Rattle.runs.proofs.Trees.{at_choose, branch_stands}
 use Rattle.runs.proofs.SlotLaws.{slots_frame}
 use Rattle.runs.proofs.PutWords.{holds_frame}
-use Rattle.runs.proofs.PutRuns.{Begun, HandsBack, put_by, by_put, test_by, GivesLong, on_long, gives_long, answer_is, put_space}
+use Rattle.runs.proofs.PutRuns.{HandsBack, put_by, by_put, test_by, GivesLong, on_long, gives_long, answer_is, put_space}
 
 -- the rule for either answer
 abbrev over : Lookup → Test → Transformation → Transformation → Slots → Value → List Standing → SlotStandings → Bool → Back
@@ -55,9 +55,6 @@ module _ {entries : List Entry} {lines : List Line} {ends w marks : List ℕ} {s
   abbrev src : Value
   src = value_at (made_by entries) w start len
 
-  pub choose_levels : 2 ≤ levels
-  choose_levels = let s = (here (ready_choose begun.ready begun.op).1).some in omega arith
-
   choose_shown : (P : Test) (Y Z : Transformation) (l m q : ℕ) → StandsTest entries P (entry + 1) l → Stands entries Y l m → Stands entries Z m q
       → (p : Answer) × (test (lookup_of lines) P env src ≡ gives p) × GivesLong (branch_run p.yes (show (lookup_of lines) Y) (show (lookup_of lines) Z) env src) vlen
   unfolding Stands show
@@ -73,12 +70,12 @@ module _ {entries : List Entry} {lines : List Line} {ends w marks : List ℕ} {s
       × StandsTest entries P (entry + 1) l × Stands entries Y l m × Stands entries Z m begun.ready.behind
   parts = at_choose entries begun.ready.tree entry begun.ready.behind begun.ready.placed.stands begun.op
 
-  pub choose_goes : {w₁ : List ℕ} {s : Stop} → TestedBy entries lines w slots (entry + 1) start len top w₁ (tested.Stop s) → ⊥
+  pub choose_goes : {w₁ : List ℕ} {s : Stop} → TestedBy entries lines w slots (entry + 1) start len top w₁ (Err s) → ⊥
   choose_goes {w₁} {s} x =
       let a = choose_shown parts.0 parts.1 parts.2 parts.3 parts.4 begun.ready.behind parts.6 parts.7 parts.8 in
       no_gives s a.0.yes (x.meets parts.0 parts.3 parts.6 ∙ ap yes_only a.1)
 
-  module _ {w₁ : List ℕ} {b : Bool} (x : TestedBy entries lines w slots (entry + 1) start len top w₁ (tested.Says b)) where
+  module _ {w₁ : List ℕ} {b : Bool} (x : TestedBy entries lines w slots (entry + 1) start len top w₁ (Ok b)) where
     says : (P : Test) (l : ℕ) → StandsTest entries P (entry + 1) l → b ≡ says_yes (test (lookup_of lines) P env src)
     says P l t = sym (answer_is (test (lookup_of lines) P env src) b (sym (x.meets P l t)))
 

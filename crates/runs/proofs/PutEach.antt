@@ -10,7 +10,7 @@ use Rattle.lines.specs.Entries.{Entry}
 use Rattle.lines.specs.Nodes.{Line}
 use Rattle.values.specs.Values.{Value, Lookup, items}
 use Rattle.values.specs.Standings.{Standing}
-use Rattle.values.specs.Engine.Words.{value_at, standings_at, FirstItem}
+use Rattle.values.specs.Engine.Words.{value_at, standings_at}
 use Rattle.values.specs.Theorems.Extents.{frame_less}
 use Rattle.values.proofs.Theorems.WordLaws.{length_value, value_none, value_frame}
 use Rattle.runs.specs.declared.stop.Stop.{Stop}
@@ -19,17 +19,17 @@ use Rattle.runs.specs.Results.{Result, gives}
 use Rattle.runs.specs.Programs.{Transformation, each}
 use Rattle.runs.specs.Showing.{Slots, Shown, in_turn, show}
 use Rattle.runs.specs.PuttingBack.{SlotStandings, Back, back, value_of, over_items, put_back}
-use Rattle.runs.specs.Engine.Runs.{made_by, lookup_of, slots_at, Space, PutSpace, Seen, PutBy}
+use Rattle.runs.specs.Engine.Runs.{Begun, made_by, lookup_of, slots_at, Space, PutSpace, Seen, PutBy}
 use Rattle.runs.specs.Engine.Trees.{Stands}
 use Rattle.runs.specs.Theorems.Inversion.{on_turn}
 use Rattle.runs.specs.Theorems.Lengths.{fitted_same}
-use Rattle.runs.proofs.Trees.{at_each, here, ready_each}
+use Rattle.runs.proofs.Trees.{at_each}
 use Rattle.runs.proofs.SlotLaws.{bound_higher, slots_frame}
 use Rattle.runs.proofs.PutWords.{Holds, holds_length, holds_frame, holds_join, holds_cut}
 use Rattle.runs.proofs.PutSlots.{SlotsHold}
 use Rattle.runs.specs.Theorems.RunAnswers.{Got, Halted}
-use Rattle.runs.proofs.ShowEach.{first_item}
-use Rattle.runs.proofs.PutRuns.{Begun, HandsBack, put_by, by_put, on_long, gives_long, got_size, got_seen, not_stopped, put_space, show_space}
+use Rattle.runs.proofs.ShowEach.{ItemAt, first_item}
+use Rattle.runs.proofs.PutRuns.{HandsBack, put_by, by_put, on_long, gives_long, got_size, got_seen, not_stopped, put_space, show_space}
 
 -- ## The rule, item by item
 
@@ -83,9 +83,6 @@ module _ {entries : List Entry} {lines : List Line} {ends w₀ marks₀ : List �
   abbrev rest : ℕ → List Value
   rest at = left entries lines w₀ marks₀ slots entry start len view vlen top at
 
-  pub each_levels : 2 ≤ levels
-  each_levels = let s = (here (ready_each begun.ready begun.op)).some in omega arith
-
   pub items_start : At w₀ marks₀ 0 0
   unfolding Stands show standings_at
   items_start =
@@ -119,12 +116,9 @@ module _ {entries : List Entry} {lines : List Line} {ends w₀ marks₀ : List �
       ∙ ap (λ (rs : List Standing). back rs s.1) (append-nil s.0))))
       (record { source = subst (λ (n : ℕ). Holds texts w top n s.0) all s.2; slots_hold = s.3 }))
 
-  module _ {w marks : List ℕ} {at done : ℕ} (g : At w marks at done) (more : at < len) {k : ℕ} (f : FirstItem w (start + at) (len - at) k) where
+  module _ {w marks : List ℕ} {at done : ℕ} (g : At w marks at done) (more : at < len) {k : ℕ} (f : ItemAt w (start + at) (len - at) k) where
     abbrev item : Value
     item = value_at (made_by entries) w₀ (start + at) k
-
-    pub some_nodes : 1 ≤ k
-    some_nodes = let l = f.long (made_by entries) in omega arith
 
     cut_items : rest at ≡ item ∷ rest (at + k)
     cut_items =
@@ -147,7 +141,7 @@ module _ {entries : List Entry} {lines : List Line} {ends w₀ marks₀ : List �
 
     pub item_space : Space w slots (start + at) k (top + 128) (levels - 1)
     item_space =
-        let two = each_levels in
+        let two = begun.two in
         show_space begun.room g.long (omega arith) (omega arith) (omega arith) (omega arith)
 
     -- the item in the slice as it is now
@@ -167,7 +161,7 @@ module _ {entries : List Entry} {lines : List Line} {ends w₀ marks₀ : List �
       item_size : (X : Transformation) (q : ℕ) → Stands entries X (entry + 1) q → m ≡ length (value_of (run X item))
       item_size X q st =
           let s = x.small in
-          let two = each_levels in
+          let two = begun.two in
           got_size x (omega arith) X q st ∙ ap₂ (λ (v : Value) (s : Slots). length (value_of (show (lookup_of lines) X s v))) item_now.0 item_now.1
 
       sizes : (X : Transformation) (q : ℕ) (st : Stands entries X (entry + 1) q) → let a = item_shown X q st in (length a.0.value ≡ m) × (done + m ≤ vlen)
@@ -186,7 +180,7 @@ module _ {entries : List Entry} {lines : List Line} {ends w₀ marks₀ : List �
       pub item_asks : PutSpace w₁ marks slots (start + at) k (view + done) m (top + at) (levels - 1) × Seen entries lines w₁ slots (entry + 1) (start + at) k m
       item_asks =
           let c = item_fits in
-          let two = each_levels in (
+          let two = begun.two in (
             put_space begun.room (x.kept ∙ g.long) g.marks_long (omega arith) (omega arith) (omega arith) (omega arith) (omega arith),
             got_seen x (omega arith) x.frame (omega arith) (bound_higher begun.room.bound (top + 128) (omega arith)),
           )
@@ -196,7 +190,7 @@ module _ {entries : List Entry} {lines : List Line} {ends w₀ marks₀ : List �
       item_next {w₂} {marks₂} long₂ longer y =
           let b = begun.room.below in
           let c = item_fits in
-          let two = each_levels in
+          let two = begun.two in
           let f₁ : take top w₁ ≡ take top w₀ = frame_less w w₁ (top + 128) top x.frame (omega arith) ∙ g.frame in
           record {
             most = omega arith;

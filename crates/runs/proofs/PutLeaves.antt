@@ -2,8 +2,7 @@
 use mathlib.Core.Path.{◌≡◌, refl, sym, ap, subst, ◌∙◌}
 use mathlib.Core.Bool.{Bool, true, false}
 use mathlib.Core.List.{List, [], ◌∷◌}
-use mathlib.Core.Logic.{◌⊎◌, inl, inr}
-use Prim.Native.Nat.{ℕ, suc, ◌+◌, ◌-◌, ◌≤◌, ◌<◌}
+use Prim.Native.Nat.{ℕ, suc, ◌+◌, ◌≤◌}
 use native.Mathlib.Omega.{arith}
 use lib.Dec.{eqb}
 use lib.ListN.{length, get_or, take, replicate, length-replicate}
@@ -24,7 +23,7 @@ use Rattle.runs.specs.Reading.{no_entry}
 use Rattle.runs.specs.Showing.{Slots, Shown, one_element, show}
 use Rattle.runs.specs.PuttingBack.{SlotStandings, back, put_back}
 use Rattle.runs.specs.Engine.Runs.{made_by, lookup_of, slots_at, bytes_to, merged_at, Ready, PutSpace, Seen, PutBy}
-use Rattle.runs.specs.Engine.SlotWords.{innermost}
+use Rattle.runs.specs.Engine.SlotWords.{slot_at, innermost}
 use Rattle.runs.specs.Engine.Trees.{Stands}
 use Rattle.runs.specs.Theorems.Inversion.{gives_inj, on_bind, on_element}
 use Rattle.runs.proofs.Trees.{at_source, at_nothing, at_text, at_tag, at_slot, at_contents, slot_bound}
@@ -56,13 +55,14 @@ module _ {entries : List Entry} {lines : List Line} {ends w marks : List ℕ} {s
       on_long (show (lookup_of lines) (source entry) env src) vlen (seen.fits (source entry) (suc entry) ((refl, op), refl)) λ a e l.
       sym l ∙ (ap (λ (x : Shown). length x.value) (sym (gives_inj _ a e)) ∙ src_long)
 
-  pub source_back : {w' : List ℕ} → operation ≡ 0x01 → w' ≡ put_at w top (part w view len) → PutBy entries lines w marks slots entry start len view vlen top w' marks
+  pub source_back : {w' : List ℕ} → operation ≡ 0x01 → w' ≡ put_at w top (part w view vlen) → PutBy entries lines w marks slots entry start len view vlen top w' marks
   unfolding put_back
   source_back {w'} op c =
       let n = source_long op in
-      let l = length_part w view len (omega arith) in
-      by_put (kept_below w top (part w view len) c (omega arith)) λ texts ss us g u X q st.
-      rw (at_source entries X entry q st op) (record { source = holds_copied w c (omega arith) (omega arith) (subst (λ (k : ℕ). Holds texts w view k ss) n g); slots_hold = u })
+      let l = length_part w view vlen (omega arith) in
+      by_put (kept_below w top (part w view vlen) c (omega arith)) λ texts ss us g u X q st.
+      rw (at_source entries X entry q st op)
+      (record { source = subst (λ (k : ℕ). Holds texts w' top k ss) n (holds_copied w c (omega arith) (omega arith) g); slots_hold = u })
 
   -- ## 02, 03, 04
 
@@ -99,14 +99,14 @@ module _ {entries : List Entry} {lines : List Line} {ends w marks : List ℕ} {s
     pub slot_found : among byte (bytes_to slots slots.count) ≡ true
     slot_found = rw is (slot_bound r op)
 
-    pub slot_long : vlen ≡ get_or slots.lens (innermost slots.bytes slots.count byte slots.count) 0
+    pub slot_long : vlen ≡ (slot_at slots (innermost slots byte slots.count)).len
     unfolding Stands show
     slot_long =
-        let f = found byte {k = innermost slots.bytes slots.count byte slots.count} room.bound slot_found refl in
+        let f = found byte {k = innermost slots byte slots.count} room.bound slot_found (rw slot_found) in
         on_long (show (lookup_of lines) (slot entry byte) env src) vlen (seen.fits (slot entry byte) (suc entry) ((refl, op), is, refl)) λ a p l.
         sym l ∙ (ap (λ (x : Shown). length x.value) (sym (gives_inj _ a p)) ∙ (ap length (f.value (made_by entries) w) ∙ length_value (made_by entries) w _ _ (omega arith)))
 
-    pub slot_back : {w' marks' : List ℕ} → w' ≡ put_at w top (replicate len 0) → marks' ≡ merged_at marks slots (innermost slots.bytes slots.count byte slots.count) w view
+    pub slot_back : {w' marks' : List ℕ} → w' ≡ put_at w top (replicate len 0) → marks' ≡ merged_at marks slots (innermost slots byte slots.count) w view
         → PutBy entries lines w marks slots entry start len view vlen top w' marks'
     unfolding put_back
     slot_back {w'} {marks'} c d =
@@ -126,38 +126,16 @@ module _ {entries : List Entry} {lines : List Line} {ends w marks : List ℕ} {s
       sym src_long ∙ (on_element (lookup_of lines) (λ v z. length v ≡ 1 + length z.inner) (λ y v _ _. let k = length_lowered v in omega arith) entry src x p
       ∙ ap (λ (n : ℕ). 1 + n) (ap (λ (x : Shown). length x.value) (gives_inj _ a e₁) ∙ l))
 
-  pub contents_back : {w' : List ℕ} → operation ≡ 0x06 → w' ≡ put_at (put_at w top (replicate 1 0)) (top + 1) (part w view (len - 1))
+  pub contents_back : {w' : List ℕ} → operation ≡ 0x06 → w' ≡ put_at (put_at w top (0 ∷ [])) (top + 1) (part w view vlen)
       → PutBy entries lines w marks slots entry start len view vlen top w' marks
   unfolding put_back all_over
   contents_back {w'} op c =
       let n = contents_long op in
-      let w₁ = put_at w top (replicate 1 0) in
-      let l₁ = length_put w top (replicate 1 0) (omega arith) in
-      let l = length_part w view (len - 1) (omega arith) in
-      let f = kept_below w₁ (top + 1) (part w view (len - 1)) c (omega arith) in
-      let m : vlen ≡ len - 1 = omega arith in
-      by_put (frame_less w₁ w' (top + 1) top f (omega arith) ∙ kept_below w top (replicate 1 0) refl (omega arith)) λ texts ss us g u X q st.
+      let w₁ = put_at w top (0 ∷ []) in
+      let l₁ = length_put w top (0 ∷ []) (omega arith) in
+      let l = length_part w view vlen (omega arith) in
+      let f = kept_below w₁ (top + 1) (part w view vlen) c (omega arith) in
+      by_put (frame_less w₁ w' (top + 1) top f (omega arith) ∙ kept_below w top (0 ∷ []) refl (omega arith)) λ texts ss us g u X q st.
       let own = holds_frame (top + 1) f (omega arith) (holds_untouched {texts = texts} (made 0 false [] ∷ []) w {w' = w₁} {to = top} refl refl (omega arith)) in
-      let rest = holds_copied w₁ c (omega arith) (omega arith) (subst (λ (k : ℕ). Holds texts w view k ss) m g) in
-      rw (at_contents entries X entry q st op) (record { source = holds_join (omega arith) own rest; slots_hold = u })
-
--- ## The operation, where the code has told it from 01, 05 to 09, 0A and 0B
-
-abbrev NoOther : ℕ → Type 0
-NoOther r = (((((((Unit {0} × (r ≡ 1 → ⊥)) × (r ≡ 5 → ⊥)) × (r ≡ 6 → ⊥)) × (r ≡ 7 → ⊥)) × (r ≡ 8 → ⊥)) × (r ≡ 9 → ⊥)) × (r ≡ 10 → ⊥)) × (r ≡ 11 → ⊥)
-
-past : (k r : ℕ) → k ≤ r → (r ≡ k → ⊥) → suc k ≤ r
-past k r h n = omega arith
-
-pub not_source : {r : ℕ} → 1 ≤ r → NoOther r → 2 ≤ r
-not_source {r} h n = past 1 r h n.0.0.0.0.0.0.0.1
-
-pub bind_left : {r : ℕ} → 1 ≤ r → r < 0x0D → (r < 1) ⊎ (5 ≤ r) → NoOther r → r ≡ 0x0C
-bind_left {r} low high (inl h) n = absurd (omega arith)
-bind_left {r} low high (inr h) n =
-    let past_seven : 8 ≤ r = past 7 r (past 6 r (past 5 r h n.0.0.0.0.0.0.1) n.0.0.0.0.0.1) n.0.0.0.0.1 in
-    let past_ten : 11 ≤ r = past 10 r (past 9 r (past 8 r past_seven n.0.0.0.1) n.0.0.1) n.0.1 in
-    last r (past 11 r past_ten n.1) high
-  where
-    last : (r : ℕ) → 0x0C ≤ r → r < 0x0D → r ≡ 0x0C
-    last r l h = omega arith
+      rw (at_contents entries X entry q st op)
+      (record { source = holds_join (omega arith) own (holds_copied w₁ c (omega arith) (omega arith) g); slots_hold = u })

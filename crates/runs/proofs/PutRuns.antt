@@ -2,7 +2,7 @@
 use mathlib.Core.Path.{◌≡◌, refl, sym, ap, subst, ◌∙◌}
 use mathlib.Core.Bool.{Bool}
 use mathlib.Core.List.{List}
-use Prim.Native.Nat.{ℕ, ◌^◌, ◌+◌, ◌*◌, ◌≤◌, ◌<◌}
+use Prim.Native.Nat.{ℕ, ◌+◌, ◌-◌, ◌*◌, ◌≤◌}
 use native.Mathlib.Omega.{arith}
 use lib.ListN.{length, get_or, take}
 use Rattle.lines.specs.Entries.{Entry}
@@ -12,19 +12,15 @@ use Rattle.values.specs.Standings.{Standing}
 use Rattle.values.specs.Engine.Words.{part, value_at, standings_at, AllNamed}
 use Rattle.values.proofs.Theorems.WordLaws.{length_value, value_frame}
 use Rattle.runs.specs.declared.stop.Stop.{Stop}
-use Rattle.runs.specs.declared.stop.Run.{Run}
-use Rattle.runs.specs.declared.stop.Tested.{Tested}
-use Rattle.runs.specs.declared.at.At.{At}
 use Rattle.runs.specs.declared.slots.SlotWords.{SlotWords}
 use Rattle.runs.specs.Results.{Result, gives, stops}
 use Rattle.runs.specs.Programs.{Transformation, Test}
 use Rattle.runs.specs.Reading.{no_entry}
 use Rattle.runs.specs.Showing.{Shown, Answer, show}
 use Rattle.runs.specs.PuttingBack.{SlotStandings, Back, value_of, says_yes, put_back, put_back_test}
-use Rattle.runs.specs.Engine.Runs.{made_by, lookup_of, slots_at, Bound, Ready, value_only, yes_only, Space, ShownBy, TestedBy, marks_at, NamedTo, PutSpace, Seen, PutBy, TestPutBy}
+use Rattle.runs.specs.Engine.Runs.{Run, Tested, made_by, lookup_of, slots_at, Bound, value_only, yes_only, Space, ShownBy, TestedBy, marks_at, NamedTo, PutSpace, Seen, Begun, PutBy, TestPutBy, Ready}
 use Rattle.runs.specs.Engine.Trees.{Stands, StandsTest}
 use Rattle.runs.specs.Theorems.Inversion.{no_gives, gives_inj}
-use Rattle.runs.proofs.Trees.{here}
 use Rattle.runs.proofs.SlotLaws.{bound_higher, slots_frame}
 use Rattle.runs.specs.Theorems.RunAnswers.{Got, Halted, Gave}
 use Rattle.runs.proofs.PutWords.{Holds}
@@ -169,33 +165,7 @@ show_space s {top' = top'} l a b d e =
 
 -- ## What a combinator's function stands on
 
-pub record Begun (entries : List Entry) (lines : List Line) (ends w marks : List ℕ) (slots : SlotWords) (entry start len view vlen top levels operation : ℕ) : Type 0 where
-  pub ready : Ready entries ends slots entry levels
-  pub room : PutSpace w marks slots start len view vlen top levels
-  pub seen : Seen entries lines w slots entry start len vlen
-  pub op : (get_or entries entry no_entry).operation ≡ operation
-
-abbrev pub BegunAt : List Entry → List Line → List ℕ → List ℕ → List ℕ → At → ℕ → Type 0
-BegunAt entries lines ends w marks at operation =
-    Begun entries lines ends w marks at.slots at.entry at.start at.len at.view at.vlen at.top at.levels operation
-
--- what its sums need
-pub record PutFacts (long entry start len view vlen top levels : ℕ) : Type 0 where
-  pub fits : long < 2 ^ 64
-  pub small : entry < 96
-  pub two : 2 ≤ levels
-  pub below : start + len ≤ top
-  pub short : len ≤ 128
-  pub view_below : view + vlen ≤ top
-  pub enough : top + 256 * levels ≤ long
-
-abbrev pub PutFactsAt : List ℕ → At → Type 0
-PutFactsAt w at = PutFacts (length w) at.entry at.start at.len at.view at.vlen at.top at.levels
-
-pub put_facts : {entries : List Entry} {lines : List Line} {ends w marks : List ℕ} {slots : SlotWords} {entry start len view vlen top levels operation : ℕ}
-    → Begun entries lines ends w marks slots entry start len view vlen top levels operation
-    → 2 ≤ levels → length w < 2 ^ 64 → PutFacts (length w) entry start len view vlen top levels
-put_facts b two fits =
-    let h = here b.ready in
-    let room = b.room in
-    record { fits = fits; small = omega arith; two = two; below = room.below; short = room.short; view_below = room.view_below; enough = room.enough }
+pub begun : {entries : List Entry} {lines : List Line} {ends w marks : List ℕ} {slots : SlotWords} {entry start len view vlen top levels k : ℕ}
+    → Ready entries ends slots entry levels → PutSpace w marks slots start len view vlen top levels → Seen entries lines w slots entry start len vlen
+    → (get_or entries entry no_entry).operation ≡ k → 1 ≤ levels - 1 → Begun entries lines ends w marks slots entry start len view vlen top levels k
+begun r p s o h = record { ready = r; room = p; seen = s; op = o; two = omega arith }

@@ -7,8 +7,7 @@ use Prim.Native.Nat.{ℕ, zero, suc, ◌+◌, ◌*◌, ◌≤◌, ◌<◌}
 use native.Mathlib.Numerals.{add-one}
 use native.Mathlib.Omega.{arith}
 use lib.Dec.{eqb}
-use lib.ListN.{length, get_or, set, replicate, length-replicate}
-use lib.Seq.{get_or-set_same, get_or-set_other}
+use lib.ListN.{length, replicate, length-replicate}
 use Rattle.lines.specs.Writing.{put_at}
 use Rattle.values.specs.Values.{Value, among}
 use Rattle.values.specs.Standings.{Standing, untouched, all_over, merged}
@@ -18,7 +17,8 @@ use Rattle.values.proofs.Theorems.WordLaws.{merged_length}
 use Rattle.runs.specs.declared.slots.SlotWords.{SlotWords}
 use Rattle.runs.specs.PuttingBack.{SlotStandings, first_slot, rest_slots, merged_into}
 use Rattle.runs.specs.Engine.Runs.{slots_to, slots_at, bytes_to, Bound, marks_to, marks_at, NamedTo, merged_at}
-use Rattle.runs.specs.Engine.SlotWords.{one_more, innermost}
+use Rattle.runs.specs.Engine.SlotWords.{slot_at, one_more, innermost}
+use Rattle.runs.proofs.SlotLaws.{kept, last}
 use Rattle.runs.proofs.PutWords.{Holds, holds_same, holds_untouched, holds_merged}
 
 pub record SlotsHold (texts : ℕ → List ℕ) (marks : List ℕ) (slots : SlotWords) (us : SlotStandings) : Type 0 where
@@ -31,7 +31,7 @@ SameTo texts marks slots marks' slots' k = (marks_to texts marks' slots' k ≡ m
 
 -- where each has the same words and the same length
 same_to : (texts : ℕ → List ℕ) (marks marks' : List ℕ) (slots slots' : SlotWords) (k : ℕ)
-    → ((i : ℕ) → i < k → (get_or slots'.lens i 0 ≡ get_or slots.lens i 0) × (part marks' (128 * i) (get_or slots.lens i 0) ≡ part marks (128 * i) (get_or slots.lens i 0)))
+    → ((i : ℕ) → i < k → ((slot_at slots' i).len ≡ (slot_at slots i).len) × (part marks' (128 * i) ((slot_at slots i).len) ≡ part marks (128 * i) ((slot_at slots i).len)))
     → SameTo texts marks slots marks' slots' k
 unfolding marks_to standings_at
 same_to texts marks marks' slots slots' zero e = (refl, λ n. tt)
@@ -43,11 +43,11 @@ same_to texts marks marks' slots slots' (suc k) e =
 -- ## One more
 
 module _ (texts : ℕ → List ℕ) {slots : SlotWords} {top : ℕ} (b : Bound slots top) (left : slots.count < 4) (byte start len : ℕ) where
-  inner_length : (i : ℕ) → i < slots.count → get_or (set slots.lens slots.count len) i 0 ≡ get_or slots.lens i 0
-  inner_length i h = get_or-set_other slots.lens slots.count i len 0 (λ e. omega arith)
+  inner_length : (i : ℕ) → i < slots.count → (slot_at (one_more slots byte start len) i).len ≡ (slot_at slots i).len
+  inner_length i h = rw (kept b left byte start len i h)
 
-  new_length : get_or (set slots.lens slots.count len) slots.count 0 ≡ len
-  new_length = let f = b.four.2 in get_or-set_same slots.lens slots.count len 0 (omega arith)
+  new_length : (slot_at (one_more slots byte start len) slots.count).len ≡ len
+  new_length = rw (last b left byte start len)
 
   -- it starts untouched
   pub more_hold : (v : Value) {marks : List ℕ} {us : SlotStandings} → length v ≡ len → len ≤ 128 → length marks ≡ 512 → SlotsHold texts marks slots us
@@ -59,7 +59,7 @@ module _ (texts : ℕ → List ℕ) {slots : SlotWords} {top : ℕ} (b : Bound s
       let kept = same_to texts marks (put_at marks (128 * k) (replicate len 0)) slots (one_more slots byte start len) k (λ i m.
       let s = b.short i m in
       let r : length (replicate {A = ℕ} len 0) ≡ len = length-replicate len 0 in
-      (inner_length i m, put_other marks (128 * k) (replicate len 0) (omega arith) (128 * i) (get_or slots.lens i 0) (inl (omega arith)))) in
+      (inner_length i m, put_other marks (128 * k) (replicate len 0) (omega arith) (128 * i) ((slot_at slots i).len) (inl (omega arith)))) in
       record {
         says =
             ap (marks_to texts _ (one_more slots byte start len)) (add-one k)
@@ -86,32 +86,32 @@ module _ (texts : ℕ → List ℕ) {slots : SlotWords} {top : ℕ} (b : Bound s
 module _ (texts : ℕ → List ℕ) (made : Made) (w₀ : List ℕ) {slots : SlotWords} {top : ℕ} (b : Bound slots top)
     (byte : ℕ) (marks w : List ℕ) (view : ℕ) (ss : List Standing) (long : length marks ≡ 512) where
   -- into slot j
-  module _ (j : ℕ) (few : j < slots.count) (fits : view + get_or slots.lens j 0 ≤ length w) where
-    new_fits : 128 * j + length (merged_words (part marks (128 * j) (get_or slots.lens j 0)) (part w view (get_or slots.lens j 0))) ≤ 128 * j + 128
+  module _ (j : ℕ) (few : j < slots.count) (fits : view + (slot_at slots j).len ≤ length w) where
+    new_fits : 128 * j + length (merged_words (part marks (128 * j) ((slot_at slots j).len)) (part w view ((slot_at slots j).len))) ≤ 128 * j + 128
     new_fits =
         let s = b.short j few in
         let f = b.few in
-        let p = length_part marks (128 * j) (get_or slots.lens j 0) (omega arith) in
-        let q = length_part w view (get_or slots.lens j 0) fits in
-        let m = merged_length (part marks (128 * j) (get_or slots.lens j 0)) (part w view (get_or slots.lens j 0)) (p ∙ sym q) in
+        let p = length_part marks (128 * j) ((slot_at slots j).len) (omega arith) in
+        let q = length_part w view ((slot_at slots j).len) fits in
+        let m = merged_length (part marks (128 * j) ((slot_at slots j).len)) (part w view ((slot_at slots j).len)) (p ∙ sym q) in
         omega arith
 
     -- the others keep their words
     merged_other : (i : ℕ) → i < slots.count → (i < j) ⊎ (j < i)
-        → part (merged_at marks slots j w view) (128 * i) (get_or slots.lens i 0) ≡ part marks (128 * i) (get_or slots.lens i 0)
+        → part (merged_at marks slots j w view) (128 * i) ((slot_at slots i).len) ≡ part marks (128 * i) ((slot_at slots i).len)
     merged_other i h (inl l) =
         let s = b.short i h in
         let f = b.few in
         let n = new_fits in
-        put_other marks (128 * j) _ (omega arith) (128 * i) (get_or slots.lens i 0) (inl (omega arith))
+        put_other marks (128 * j) _ (omega arith) (128 * i) ((slot_at slots i).len) (inl (omega arith))
     merged_other i h (inr l) =
         let s = b.short i h in
         let f = b.few in
         let n = new_fits in
-        put_other marks (128 * j) _ (omega arith) (128 * i) (get_or slots.lens i 0) (inr (omega arith))
+        put_other marks (128 * j) _ (omega arith) (128 * i) ((slot_at slots i).len) (inr (omega arith))
 
-    merged_here : Holds texts w view (get_or slots.lens j 0) ss → AllNamed texts (part marks (128 * j) (get_or slots.lens j 0))
-        → Holds texts (merged_at marks slots j w view) (128 * j) (get_or slots.lens j 0) (merged (standings_at texts marks (128 * j) (get_or slots.lens j 0)) ss)
+    merged_here : Holds texts w view ((slot_at slots j).len) ss → AllNamed texts (part marks (128 * j) ((slot_at slots j).len))
+        → Holds texts (merged_at marks slots j w view) (128 * j) ((slot_at slots j).len) (merged (standings_at texts marks (128 * j) ((slot_at slots j).len)) ss)
     merged_here h n =
         let s = b.short j few in
         let f = b.few in
@@ -124,21 +124,21 @@ module _ (texts : ℕ → List ℕ) (made : Made) (w₀ : List ℕ) {slots : Slo
       × NamedTo texts (merged_at marks slots j w view) slots k
 
   merged_to : (k : ℕ) → k ≤ slots.count → among byte (bytes_to slots k) ≡ true
-      → let j = innermost slots.bytes slots.count byte k in
-      view + get_or slots.lens j 0 ≤ length w → Holds texts w view (get_or slots.lens j 0) ss → NamedTo texts marks slots k
+      → let j = innermost slots byte k in
+      view + (slot_at slots j).len ≤ length w → Holds texts w view ((slot_at slots j).len) ss → NamedTo texts marks slots k
       → (j < k) × MergedTo j k
   unfolding among bytes_to innermost slots_to marks_to merged_into
   merged_to zero few found fits h n = let z : ◌≡◌ {A = ℕ} 0 1 = cc in absurd (omega arith)
-  merged_to (suc k) few found fits h n = go (eqb byte (get_or slots.bytes k 0)) found fits h (λ f l g. merged_to k (omega arith) f l g n.1)
+  merged_to (suc k) few found fits h n = go (eqb byte ((slot_at slots k).byte)) found fits h (λ f l g. merged_to k (omega arith) f l g n.1)
     where
       go : (t : Bool) → (t || among byte (bytes_to slots k)) ≡ true
-          → let j = innermost slots.bytes slots.count byte k in
-          view + get_or slots.lens (cond t k j) 0 ≤ length w → Holds texts w view (get_or slots.lens (cond t k j) 0) ss
-          → (among byte (bytes_to slots k) ≡ true → view + get_or slots.lens j 0 ≤ length w → Holds texts w view (get_or slots.lens j 0) ss → (j < k) × MergedTo j k)
+          → let j = innermost slots byte k in
+          view + (slot_at slots (cond t k j)).len ≤ length w → Holds texts w view ((slot_at slots (cond t k j)).len) ss
+          → (among byte (bytes_to slots k) ≡ true → view + (slot_at slots j).len ≤ length w → Holds texts w view ((slot_at slots j).len) ss → (j < k) × MergedTo j k)
           → (cond t k j < suc k)
           × ((marks_to texts (merged_at marks slots (cond t k j) w view) slots (suc k)
-          ≡ cond t (merged (standings_at texts marks (128 * k) (get_or slots.lens k 0)) ss ∷ marks_to texts marks slots k)
-          (standings_at texts marks (128 * k) (get_or slots.lens k 0) ∷ merged_into byte (slots_to made w₀ slots k) ss (marks_to texts marks slots k)))
+          ≡ cond t (merged (standings_at texts marks (128 * k) ((slot_at slots k).len)) ss ∷ marks_to texts marks slots k)
+          (standings_at texts marks (128 * k) ((slot_at slots k).len) ∷ merged_into byte (slots_to made w₀ slots k) ss (marks_to texts marks slots k)))
           × NamedTo texts (merged_at marks slots (cond t k j) w view) slots (suc k))
       go true found fits h ih =
           let new = merged_here k few fits h n.0 in
@@ -147,8 +147,8 @@ module _ (texts : ℕ → List ℕ) (made : Made) (w₀ : List ℕ) {slots : Slo
       go false found fits h ih =
           let r = ih found fits h in
           let l = r.0 in
-          let j = innermost slots.bytes slots.count byte k in
-          let first : part (merged_at marks slots j w view) (128 * k) (get_or slots.lens k 0) ≡ part marks (128 * k) (get_or slots.lens k 0)
+          let j = innermost slots byte k in
+          let first : part (merged_at marks slots j w view) (128 * k) ((slot_at slots k).len) ≡ part marks (128 * k) ((slot_at slots k).len)
           = merged_other j (omega arith) fits k few (inr l) in (
             omega arith,
             (
@@ -158,8 +158,8 @@ module _ (texts : ℕ → List ℕ) (made : Made) (w₀ : List ℕ) {slots : Slo
           )
 
   pub merged_hold : {us : SlotStandings} → among byte (bytes_to slots slots.count) ≡ true
-      → let j = innermost slots.bytes slots.count byte slots.count in
-      view + get_or slots.lens j 0 ≤ length w → Holds texts w view (get_or slots.lens j 0) ss → SlotsHold texts marks slots us
+      → let j = innermost slots byte slots.count in
+      view + (slot_at slots j).len ≤ length w → Holds texts w view ((slot_at slots j).len) ss → SlotsHold texts marks slots us
       → SlotsHold texts (merged_at marks slots j w view) slots (merged_into byte (slots_at made w₀ slots) ss us)
   unfolding slots_at marks_at
   merged_hold {us} found fits h u =

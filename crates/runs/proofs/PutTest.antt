@@ -3,7 +3,7 @@ use mathlib.Core.Path.{◌≡◌, refl, sym, ap, subst, ◌∙◌}
 use mathlib.Core.Bool.{Bool}
 use mathlib.Core.List.{List, [], ◌∷◌}
 use mathlib.Core.Logic.{inr}
-use Prim.Native.Nat.{ℕ, ◌^◌, ◌+◌, ◌-◌, ◌≤◌, ◌<◌}
+use Prim.Native.Nat.{ℕ, ◌+◌, ◌-◌, ◌≤◌}
 use native.Mathlib.Numerals.{add-one}
 use native.Mathlib.Omega.{arith}
 use lib.ListN.{length, get_or, take, replicate, length-replicate}
@@ -23,13 +23,13 @@ use Rattle.runs.specs.Programs.{equals, Transformation, Test, compares, tagged, 
 use Rattle.runs.specs.Reading.{no_entry}
 use Rattle.runs.specs.Showing.{Slots, Answer, one_text, show, test}
 use Rattle.runs.specs.PuttingBack.{SlotStandings, back, put_back, put_back_test}
-use Rattle.runs.specs.Engine.Runs.{made_by, lookup_of, slots_at, yes_only, ReadyTest, PutSpace, Seen, Asked, PutBy, TestPutBy}
+use Rattle.runs.specs.Engine.Runs.{BegunTest, made_by, lookup_of, slots_at, yes_only, PutSpace, Seen, PutBy, TestPutBy}
 use Rattle.runs.specs.Engine.Trees.{Stands, StandsTest}
 use Rattle.runs.specs.Theorems.Inversion.{no_gives, on_bind, on_text}
-use Rattle.runs.proofs.Trees.{at_equals, here, here_test, ready_equals}
+use Rattle.runs.proofs.Trees.{at_equals}
 use Rattle.runs.proofs.SlotLaws.{slots_frame}
 use Rattle.runs.proofs.PutWords.{Holds, holds_frame, holds_other, holds_locked, holds_merged, kept_below}
-use Rattle.runs.proofs.PutRuns.{PutFacts, HandsBack, put_by, by_test, GivesLong, gives_long, put_space}
+use Rattle.runs.proofs.PutRuns.{HandsBack, put_by, by_test, GivesLong, gives_long, put_space}
 
 pub on_answer : {C : Type 0} (r : Result Stop Answer) (b : Bool) → yes_only r ≡ gives b → ((p : Answer) → r ≡ gives p → C) → C
 on_answer (gives p) b h k = k p refl
@@ -60,13 +60,6 @@ equals_rule : (look : Lookup) (e : ℕ) (Y : Transformation) (s s₁ : Slots) (v
 unfolding put_back_test
 equals_rule look e Y s s₁ v u ls rs us a b c = rw (a, b, c)
 
--- what its function stands on there
-pub record BegunTest (entries : List Entry) (lines : List Line) (ends w marks : List ℕ) (slots : SlotWords) (entry start len top levels : ℕ) : Type 0 where
-  pub ready : ReadyTest entries ends slots entry levels
-  pub room : PutSpace w marks slots start len start len top levels
-  pub asked : Asked entries lines w slots entry start len
-  pub op : (get_or entries entry no_entry).operation ≡ 0x11
-
 module _ {entries : List Entry} {lines : List Line} {ends w marks : List ℕ} {slots : SlotWords} {entry start len top levels : ℕ}
     (begun : BegunTest entries lines ends w marks slots entry start len top levels) where
   abbrev env : Slots
@@ -74,15 +67,6 @@ module _ {entries : List Entry} {lines : List Line} {ends w marks : List ℕ} {s
 
   abbrev src : Value
   src = value_at (made_by entries) w start len
-
-  equals_levels : 2 ≤ levels
-  equals_levels = let s = (here (ready_equals begun.ready begun.op)).some in omega arith
-
-  pub equals_facts : length w < 2 ^ 64 → PutFacts (length w) entry start len start len top levels
-  equals_facts fits =
-      let h = here_test begun.ready in
-      let b = begun.room in
-      record { fits = fits; small = omega arith; two = equals_levels; below = b.below; short = b.short; view_below = b.view_below; enough = b.enough }
 
   src_long : length src ≡ len
   src_long = length_value (made_by entries) w start len (let b = begun.room.below in let e = begun.room.enough in omega arith)
@@ -111,7 +95,7 @@ module _ {entries : List Entry} {lines : List Line} {ends w marks : List ℕ} {s
 
     fits₁ : top + 128 + length (replicate {A = ℕ} len 1) ≤ length w
     fits₁ =
-        let two = equals_levels in
+        let two = begun.two in
         let n = one in
         let l : length (replicate {A = ℕ} len 1) ≡ len = length-replicate len 1 in
         omega arith
@@ -124,7 +108,7 @@ module _ {entries : List Entry} {lines : List Line} {ends w marks : List ℕ} {s
 
     both_long : length both ≡ len
     both_long =
-        let two = equals_levels in
+        let two = begun.two in
         let n = one in
         let k = long₁ in
         let a = length_part w₁ top len (omega arith) in
@@ -134,7 +118,7 @@ module _ {entries : List Entry} {lines : List Line} {ends w marks : List ℕ} {s
     -- they end before the locked ones
     fits₂ : (top + length both ≤ length w₁) × (top + length both ≤ top + 128)
     fits₂ =
-        let two = equals_levels in
+        let two = begun.two in
         let n = one in
         let k = long₁ in
         let m = both_long in
@@ -149,7 +133,7 @@ module _ {entries : List Entry} {lines : List Line} {ends w marks : List ℕ} {s
     pub equals_asks : PutSpace w₂ marks slots start 0 (top + 128) len (top + 256) (levels - 1) × Seen entries lines w₂ slots (entry + 1) start 0 len
     equals_asks =
         let n = one in
-        let two = equals_levels in (
+        let two = begun.two in (
           put_space begun.room long₂ refl (omega arith) (omega arith) (omega arith) (omega arith) (omega arith),
           record { fits = λ Y q y. rw (slots_frame (made_by entries) w w₂ begun.room.bound frame₂, value_none (made_by entries) w₂ start, n) (equals_shown Y q y).1 },
         )
@@ -159,7 +143,7 @@ module _ {entries : List Entry} {lines : List Line} {ends w marks : List ℕ} {s
     unfolding all_over
     equals_back {w₃} {marks₃} y =
         let n = one in
-        let two = equals_levels in
+        let two = begun.two in
         let k = long₁ in
         by_test (frame_less w₂ w₃ (top + 256) top y.frame (omega arith) ∙ frame₂) λ texts rs us g u P q st.
         let t = at_equals entries P entry q st begun.op in

@@ -1,7 +1,7 @@
 -- 08 put back: what was shown, what is asked of the two runs below, and what they make.
 use mathlib.Core.Path.{◌≡◌, refl, sym, ap, subst, ◌∙◌}
 use mathlib.Core.List.{List}
-use Prim.Native.Nat.{ℕ, ◌+◌, ◌-◌, ◌≤◌}
+use Prim.Native.Nat.{ℕ, ◌+◌, ◌-◌}
 use native.Mathlib.Numerals.{add-one}
 use native.Mathlib.Omega.{arith}
 use lib.ListN.{length, get_or, take}
@@ -19,14 +19,14 @@ use Rattle.runs.specs.Results.{gives}
 use Rattle.runs.specs.Programs.{Transformation, and_then}
 use Rattle.runs.specs.Showing.{Slots, Shown, show}
 use Rattle.runs.specs.PuttingBack.{SlotStandings, value_of, put_back}
-use Rattle.runs.specs.Engine.Runs.{made_by, lookup_of, slots_at, PutSpace, Seen, PutBy}
+use Rattle.runs.specs.Engine.Runs.{Begun, made_by, lookup_of, slots_at, PutSpace, Seen, PutBy}
 use Rattle.runs.specs.Engine.Trees.{Stands}
 use Rattle.runs.specs.Theorems.Inversion.{gives_inj, on_bind}
-use Rattle.runs.proofs.Trees.{at_then, here, ready_then}
+use Rattle.runs.proofs.Trees.{at_then}
 use Rattle.runs.proofs.SlotLaws.{slots_frame}
 use Rattle.runs.proofs.PutWords.{holds_frame, holds_copied, kept_below}
 use Rattle.runs.specs.Theorems.RunAnswers.{Got, Halted}
-use Rattle.runs.proofs.PutRuns.{Begun, HandsBack, put_by, by_put, GivesLong, on_long, gives_long, got_value, not_stopped, got_seen, put_space}
+use Rattle.runs.proofs.PutRuns.{HandsBack, put_by, by_put, GivesLong, on_long, gives_long, got_value, not_stopped, got_seen, put_space}
 
 -- the rule, of the words' values
 then_rule : (look : Lookup) (e : ℕ) (Y Z : Transformation) (s s₁ s₂ : Slots) (v v₂ u : Value) (ss : List Standing) (us : SlotStandings)
@@ -42,9 +42,6 @@ module _ {entries : List Entry} {lines : List Line} {ends w marks : List ℕ} {s
 
   abbrev src : Value
   src = value_at (made_by entries) w start len
-
-  pub then_levels : 2 ≤ levels
-  then_levels = let s = (here (ready_then begun.ready begun.op).0).some in omega arith
 
   then_shown : (Y Z : Transformation) (m q : ℕ) → Stands entries Y (entry + 1) m → Stands entries Z m q
       → (a : Shown) × (show (lookup_of lines) Y env src ≡ gives a) × GivesLong (show (lookup_of lines) Z env a.value) vlen
@@ -67,7 +64,7 @@ module _ {entries : List Entry} {lines : List Line} {ends w marks : List ℕ} {s
         → PutSpace w₁ marks' slots top n view vlen (top + 128) (levels - 1) × Seen entries lines w₁ slots (get_or ends (entry + 1) 0) top n vlen
     unfolding value_of
     then_asks_second k =
-        let two = then_levels in
+        let two = begun.two in
         let s = x.small in (
           put_space begun.room x.kept k (omega arith) s (omega arith) (omega arith) (omega arith),
           record {
@@ -81,7 +78,7 @@ module _ {entries : List Entry} {lines : List Line} {ends w marks : List ℕ} {s
     pub then_asks_first : {w₂ marks' : List ℕ} → take (top + 128) w₂ ≡ take (top + 128) w₁ → length w₂ ≡ length w₁ → length marks' ≡ length marks
         → PutSpace w₂ marks' slots start len (top + 128) n (top + 256) (levels - 1) × Seen entries lines w₂ slots (entry + 1) start len n
     then_asks_first {w₂} f l k =
-        let two = then_levels in
+        let two = begun.two in
         let b = begun.room.below in
         let h = begun.room.short in (
           put_space begun.room (l ∙ x.kept) k (omega arith) h (omega arith) (omega arith) (omega arith),
@@ -94,7 +91,7 @@ module _ {entries : List Entry} {lines : List Line} {ends w marks : List ℕ} {s
         → w₄ ≡ put_at w₃ top (part w₃ (top + 256) len)
         → PutBy entries lines w marks slots entry start len view vlen top w₄ marks₃
     then_back {w₂} {w₃} {w₄} {marks₂} {marks₃} long₃ y z c =
-        let two = then_levels in
+        let two = begun.two in
         let b = begun.room.below in
         let v = begun.room.view_below in
         let f₂ : take top w₂ ≡ take top w = frame_less w₁ w₂ (top + 128) top y.frame (omega arith) ∙ x.frame in

@@ -21,13 +21,13 @@ use Rattle.runs.specs.Results.{gives}
 use Rattle.runs.specs.Programs.{Transformation, within}
 use Rattle.runs.specs.Showing.{Slots, one_element, show}
 use Rattle.runs.specs.PuttingBack.{SlotStandings, back, inside, put_back}
-use Rattle.runs.specs.Engine.Runs.{made_by, lookup_of, slots_at, PutSpace, Seen, PutBy}
+use Rattle.runs.specs.Engine.Runs.{Begun, made_by, lookup_of, slots_at, PutSpace, Seen, PutBy}
 use Rattle.runs.specs.Engine.Trees.{Stands}
 use Rattle.runs.specs.Theorems.Inversion.{on_bind, on_element, on_bounded}
-use Rattle.runs.proofs.Trees.{at_within, here, ready_within}
+use Rattle.runs.proofs.Trees.{at_within}
 use Rattle.runs.proofs.SlotLaws.{slots_frame}
 use Rattle.runs.proofs.PutWords.{kept_below, holds_length, holds_frame, holds_cut, holds_join, holds_copied, holds_other}
-use Rattle.runs.proofs.PutRuns.{Begun, HandsBack, put_by, by_put, GivesLong, on_long, gives_long, put_space}
+use Rattle.runs.proofs.PutRuns.{HandsBack, put_by, by_put, GivesLong, on_long, gives_long, put_space}
 
 -- the rule, of the words' values
 within_rule : (look : Lookup) (e : ℕ) (Y : Transformation) (s s₁ : Slots) (v u : Value) (ss : List Standing) (us : SlotStandings) → s₁ ≡ s → u ≡ inside v → 1 ≤ length ss
@@ -43,9 +43,6 @@ module _ {entries : List Entry} {lines : List Line} {ends w marks : List ℕ} {s
 
   abbrev src : Value
   src = value_at (made_by entries) w start len
-
-  pub within_levels : 2 ≤ levels
-  within_levels = let s = (here (ready_within begun.ready begun.op)).some in omega arith
 
   within_shown : (Y : Transformation) (q : ℕ) → Stands entries Y (entry + 1) q → (1 ≤ len) × (1 ≤ vlen) × GivesLong (show (lookup_of lines) Y env (inside src)) (vlen - 1)
   unfolding Stands show inside
@@ -85,7 +82,7 @@ module _ {entries : List Entry} {lines : List Line} {ends w marks : List ℕ} {s
         length-map (part w (start + 1) (len - 1)) lowered_word ∙ length_part w (start + 1) (len - 1) (omega arith)
 
     fits₁ : top + length inner ≤ length w
-    fits₁ = let l = contents_long in let s = within_levels in let b = begun.room.short in let e = begun.room.enough in omega arith
+    fits₁ = let l = contents_long in let s = begun.two in let b = begun.room.short in let e = begun.room.enough in omega arith
 
     frame₁ : take top w₁ ≡ take top w
     frame₁ = kept_below w top inner c₁ fits₁
@@ -97,7 +94,7 @@ module _ {entries : List Entry} {lines : List Line} {ends w marks : List ℕ} {s
     unfolding value_at inside
     contents_at =
         let s = within_some in
-        let two = within_levels in
+        let two = begun.two in
         let more : len ≡ (len - 1) + 1 = omega arith in
         let put = put_part w top inner (omega (arith, fits₁)) in
         ap (map (node_of (made_by entries))) (ap (λ (l : List ℕ). part l top (len - 1)) c₁ ∙ (ap (part (put_at w top inner) top) (sym contents_long) ∙ put))
@@ -107,7 +104,7 @@ module _ {entries : List Entry} {lines : List Line} {ends w marks : List ℕ} {s
     pub within_asks : PutSpace w₁ marks slots top (len - 1) (view + 1) (vlen - 1) (top + 128) (levels - 1) × Seen entries lines w₁ slots (entry + 1) top (len - 1) (vlen - 1)
     within_asks =
         let s = within_some in
-        let two = within_levels in (
+        let two = begun.two in (
           put_space begun.room long₁ refl (omega arith) (omega arith) (omega arith) (omega arith) (omega arith),
           record { fits = λ Y q y. rw (slots_frame (made_by entries) w w₁ begun.room.bound frame₁, contents_at) (within_shown Y q y).2 },
         )
@@ -118,7 +115,7 @@ module _ {entries : List Entry} {lines : List Line} {ends w marks : List ℕ} {s
         → PutBy entries lines w marks slots entry start len view vlen top w₄ marks₂
     within_back {w₂} {w₃} {w₄} {marks₂} l₂ long₃ y c₃ c₄ =
         let s = within_some in
-        let two = within_levels in
+        let two = begun.two in
         let long₂ = l₂ ∙ long₁ in
         let f₂ : take top w₂ ≡ take top w = frame_less w₁ w₂ (top + 128) top y.frame (omega arith) ∙ frame₁ in
         let n₃ = length_part w₂ view 1 (omega arith) in

@@ -4,10 +4,10 @@ use mathlib.Core.List.{List, [], ◌∷◌, ◌++◌, map}
 use mathlib.Core.Logic.{◌⊎◌}
 use Prim.Native.Nat.{ℕ, zero, suc, ◌+◌, ◌≤◌, ◌<◌}
 use native.Mathlib.Omega.{arith}
-use lib.ListN.{length, take, drop, replicate, length-replicate}
-use lib.Seq.{take_at, drop_at}
+use lib.ListN.{length, get_or, set, take, drop, replicate, length-replicate}
+use lib.Seq.{take_at, drop_at, drop-cons}
 use Rattle.lines.specs.Writing.{put_at}
-use Rattle.lines.specs.Theorems.PutAt.{put_frame, put_part}
+use Rattle.lines.specs.Theorems.PutAt.{put_frame, put_part, put_none, put_more}
 use Rattle.values.specs.Values.{Value}
 use Rattle.values.specs.Standings.{Standing, untouched, locked, all_over, merged}
 use Rattle.values.specs.Engine.Words.{part, standing_of, standings_at, Named, AllNamed, merged_words}
@@ -132,3 +132,13 @@ module _ {texts : ℕ → List ℕ} where
 
 pub kept_below : (w : List ℕ) {w' : List ℕ} (to : ℕ) (new : List ℕ) → w' ≡ put_at w to new → to + length new ≤ length w → take to w' ≡ take to w
 kept_below w {w'} to new p fits = ap (take to) p ∙ put_frame w to new (omega arith)
+
+-- ## One word
+
+pub put_word : (w : List ℕ) (to x : ℕ) → to < length w → set w to x ≡ put_at w to (x ∷ [])
+put_word w to x h =
+    let z : to ≡ to + 0 = omega arith in
+    ap (λ (k : ℕ). set w k x) z ∙ put_more w to (x ∷ []) 0 (omega arith) (omega arith) (put_none w to) refl
+
+pub copied_word : (w : List ℕ) (to from : ℕ) → to < length w → from < length w → set w to (get_or w from 0) ≡ put_at w to (part w from 1)
+copied_word w to from h k = put_word w to (get_or w from 0) h ∙ ap (put_at w to) (sym (rw (drop-cons w from 0 k)))

@@ -1,42 +1,33 @@
 -- What the code of a run knows at its entry, and what the operations with nothing below show.
-use mathlib.Core.Path.{◌≡◌, refl, ap}
+use mathlib.Core.Path.{◌≡◌, refl, sym, ◌∙◌, ap}
 use mathlib.Core.List.{List, [], ◌∷◌}
 use mathlib.Core.Logic.{◌⊎◌, inl, inr}
 use Prim.Native.Nat.{ℕ, ◌+◌, ◌-◌, ◌/◌, ◌%◌, ◌≤◌, ◌<◌}
 use native.Mathlib.Omega.{arith}
 use native.Mathlib.Decide.{dec_lt}
-use lib.ListN.{length, get_or, length-map}
+use lib.ListN.{get_or}
 use borrow.Author.Tests.{le-ltb}
+use Rattle.std.specs.Prelude.{Ok}
 use Rattle.lines.specs.Nodes.{Line}
 use Rattle.lines.specs.Entries.{Entry, slot_of, text_of}
-use Rattle.lines.specs.Engine.Starts.{entry_at, entries_of}
 use Rattle.values.specs.Values.{program}
 use Rattle.values.specs.Engine.Words.{Made, origin_of, node_of, value_at}
 use Rattle.values.proofs.Theorems.WordLaws.{value_none}
 use Rattle.runs.specs.declared.slots.SlotWords.{SlotWords}
-use Rattle.runs.specs.declared.stop.Run.{Run}
-use Rattle.runs.specs.declared.stop.Run.TheVariants as ran
-use Rattle.runs.specs.declared.stop.Tested.{Tested}
 use Rattle.runs.specs.Results.{gives}
 use Rattle.runs.specs.Programs.{contents, tagged, is_element}
 use Rattle.runs.specs.Reading.{no_entry}
 use Rattle.runs.specs.Showing.{value_in, show, test}
-use Rattle.runs.specs.Engine.Runs.{made_by, lookup_of, slots_at, value_only, yes_only, said_of, ShownBy, TestedBy}
+use Rattle.runs.specs.Engine.Runs.{Run, Tested, made_by, lookup_of, slots_at, value_only, yes_only, said_of, ShownBy, TestedBy}
 use Rattle.runs.specs.Engine.Leaves.{Leaves}
-use Rattle.runs.proofs.Lookups.{operation_of}
-use Rattle.runs.proofs.Trees.{Here, at_source, at_nothing, at_text, at_tag, at_slot, at_contents, at_tagged, at_element}
+use Rattle.runs.proofs.Trees.{at_source, at_nothing, at_text, at_tag, at_slot, at_contents, at_tagged, at_element}
 use Rattle.runs.proofs.ShowRuns.{leaf}
 
 -- ## At the entry
 
--- an entry has its line's start
-pub in_starts : (prog starts : List ℕ) {ends : List ℕ} {entry levels : ℕ} → Here (entries_of prog starts) ends entry levels → entry < length starts
-in_starts prog starts h = let l = length-map starts (entry_at prog) in let i = h.inside in omega arith
-
 -- the operation that was read is the entry's
-pub operation_read : (prog starts : List ℕ) {ends : List ℕ} {entry levels : ℕ} → Here (entries_of prog starts) ends entry levels
-    → {r b : ℕ} → r ≡ (entry_at prog (get_or starts entry 0)).operation → r ≡ b → (get_or (entries_of prog starts) entry no_entry).operation ≡ b
-operation_read prog starts {ends} {entry} h {r} e q = operation_of prog starts entry (in_starts prog starts h) r e q
+pub read : {e f : Entry} {r b : ℕ} → e ≡ f → r ≡ e.operation → r ≡ b → f.operation ≡ b
+read e o q = ap (λ (x : Entry). x.operation) (sym e) ∙ sym o ∙ q
 
 -- 03 and 04 share a function
 pub text_or_tag : {o r : ℕ} → o ≡ r → 3 ≤ r → r < 5 → (o ≡ 3) ⊎ (o ≡ 4)
@@ -81,7 +72,7 @@ module _ {entries : List Entry} {lines : List Line} {w : List ℕ} {slots : Slot
   shows_made h (inr o) l = leaf l (λ X q st. rw (made_node (made_by entries) entry h, at_tag entries X entry q st o, o))
 
 pub shows_nothing : {entries : List Entry} {lines : List Line} {w : List ℕ} {slots : SlotWords} {entry start len top : ℕ} → (get_or entries entry no_entry).operation ≡ 0x02
-    → ShownBy entries lines w slots entry start len top w (ran.Value (record { start = top; len = 0 }))
+    → ShownBy entries lines w slots entry start len top w (Ok (record { start = top; len = 0 }))
 unfolding show
 shows_nothing {entries} {lines} {w} {slots} {entry} {start} {len} {top} o =
     record { frame = refl; place = (refl, omega arith); meets = λ X q st. rw (at_nothing entries X entry q st o) (ap gives (value_none (made_by entries) w top)) }

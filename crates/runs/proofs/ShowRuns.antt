@@ -2,11 +2,13 @@
 use mathlib.Core.Path.{◌≡◌, refl, sym, ◌∙◌, ap, ap₂, subst}
 use mathlib.Core.Bool.{Bool, true, false, cond}
 use mathlib.Core.List.{List, [], ◌∷◌, ◌++◌, append-nil}
-use Prim.Native.Nat.{ℕ, ◌+◌, ◌≤◌, ◌<◌}
+use Prim.Native.Nat.{ℕ, ◌+◌, ◌-◌, ◌≤◌, ◌<◌}
 use native.Mathlib.Nat.{zero-add}
 use native.Mathlib.Omega.{arith}
 use lib.ListN.{length, get_or, take}
 use lib.Seq.{get_or-take}
+use Rattle.std.specs.Prelude.{Result as Answered, Ok, Err, IsErrAnd}
+use Rattle.std.proofs.lemmas.Result.{err_from_is_err_and}
 use Rattle.lines.specs.Nodes.{Line}
 use Rattle.lines.specs.Entries.{Entry, slot_of}
 use Rattle.lines.specs.Writing.{put_at}
@@ -17,24 +19,20 @@ use Rattle.values.proofs.Theorems.WordLaws.{length_value, value_none, value_join
 use Rattle.runs.specs.declared.slots.SlotWords.{SlotWords}
 use Rattle.runs.specs.declared.stop.Stop.{Stop}
 use Rattle.runs.specs.declared.stop.Stop.TheVariants.{Size}
-use Rattle.runs.specs.declared.stop.Run.{Run}
-use Rattle.runs.specs.declared.stop.Run.TheVariants as ran
-use Rattle.runs.specs.declared.stop.Tested.{Tested}
-use Rattle.runs.specs.declared.stop.Tested.TheVariants as tested
 use Rattle.runs.specs.Results.{Result, gives}
 use Rattle.runs.specs.Programs.{Transformation, choose, Test}
 use Rattle.runs.specs.Reading.{no_entry}
 use Rattle.runs.specs.Showing.{Slots, Shown, in_turn, show, test}
 use Rattle.runs.specs.Engine.Trees.{Stands, StandsTest}
 use Rattle.runs.specs.Engine.Ends.{branch_at}
-use Rattle.runs.specs.Engine.Runs.{made_by, lookup_of, slots_at, Ended, Bound, said_of, value_only, ShownBy, TestedBy}
+use Rattle.runs.specs.Engine.Runs.{Run, made_by, lookup_of, slots_at, Ended, Bound, Ready, Space, Entered, value_only, ShownBy, TestedBy}
 use Rattle.runs.specs.Theorems.RunAnswers.{Got, Halted}
 use Rattle.runs.specs.Theorems.Combinators.{branch_run}
 use Rattle.runs.specs.Theorems.Combinators.{bound as bound-as}
 use Rattle.runs.specs.Engine.SlotWords.{one_more}
 use Rattle.runs.specs.Engine.Leaves.{Leaves}
-use Rattle.runs.proofs.SlotLaws.{slots_frame, more_at}
-use Rattle.runs.proofs.Trees.{at_then, at_beside, at_choose, at_bind, branch_stands}
+use Rattle.runs.proofs.SlotLaws.{slots_frame, bound_higher, more_at}
+use Rattle.runs.proofs.Trees.{Here, at_then, at_beside, at_choose, at_bind, branch_stands}
 use Rattle.runs.proofs.ShowLeaves.{copied}
 use Rattle.runs.proofs.ShowRules.{then_first_stops, then_stops, then_gives, behind}
 use Rattle.runs.proofs.ShowRules.{turn_ends, turn_stops, turn_large, turn_goes_on, choose_stops, choose_says}
@@ -46,6 +44,24 @@ pub leaf : {entries : List Entry} {lines : List Line} {w : List ℕ} {slots : Sl
     → answer ≡ value_only (show (lookup_of lines) X (slots_at (made_by entries) w slots) (value_at (made_by entries) w start len)))
     → ShownBy entries lines w slots entry start len top w' r
 leaf l is = record { frame = l.frame; place = l.place; meets = λ X q s. l.meets ∙ is X q s }
+
+-- where a stop is passed on
+pub passed : {A : Type 0} {r : Answered A Stop} {s : Stop} → IsErrAnd r (λ e. e ≡ s) → r ≡ Err s
+passed {A} {r} i = let p = err_from_is_err_and r i in p.1 ∙ ap Err p.2
+
+-- room for a run one level down
+pub space_below : {w w' : List ℕ} {slots : SlotWords} {start len top levels s l t : ℕ} → Space w slots start len top levels → 1 ≤ levels → length w' ≡ length w
+    → top ≤ t → t ≤ top + 128 → s + l ≤ t → l ≤ 128 → Space w' slots s l t (levels - 1)
+space_below {top = top} {t = t} r some kept up near below short =
+    let a = r.enough in
+    let b = r.low in
+    record { below = below; short = short; enough = omega arith; low = omega arith; bound = bound_higher r.bound t up }
+
+-- what the function of a combinator stands on
+pub entered : {entries : List Entry} {ends w : List ℕ} {slots : SlotWords} {entry start len top levels operation : ℕ}
+    → Ready entries ends slots entry levels → Space w slots start len top levels → (get_or entries entry no_entry).operation ≡ operation
+    → Here entries ends (entry + 1) (levels - 1) → Entered entries ends w slots entry start len top levels operation
+entered r s o h = let i = h.inside in let l = h.long in let n = h.some in record { ready = r; space = s; op = o; two = omega arith; next = omega arith }
 
 -- a word below top
 pub frame_word : (w w' : List ℕ) (top k : ℕ) → take top w' ≡ take top w → k < top → get_or w' k 0 ≡ get_or w k 0
@@ -66,7 +82,7 @@ module _ (entries : List Entry) (lines : List Line) (w w₁ : List ℕ) {slots :
 -- ## 08
 
 module _ {entries : List Entry} {lines : List Line} {w : List ℕ} {slots : SlotWords} {start len top : ℕ} (entry : ℕ) (op : (get_or entries entry no_entry).operation ≡ 0x08) where
-  pub then_first : {w₁ : List ℕ} {s : Stop} → Halted entries lines w slots (entry + 1) start len top w₁ s → ShownBy entries lines w slots entry start len top w₁ (ran.Stop s)
+  pub then_first : {w₁ : List ℕ} {s : Stop} → Halted entries lines w slots (entry + 1) start len top w₁ s → ShownBy entries lines w slots entry start len top w₁ (Err s)
   unfolding show
   then_first {w₁} {s} x =
       record {
@@ -79,7 +95,7 @@ module _ {entries : List Entry} {lines : List Line} {w : List ℕ} {slots : Slot
 
   module _ {ends : List ℕ} (ended : Ended entries ends) (bound : Bound slots top) {w₁ : List ℕ} {n : ℕ}
       (x : Got entries lines w slots (entry + 1) start len top w₁ n) {second : ℕ} (e : second ≡ get_or ends (entry + 1) 0) where
-    pub then_second : {w₂ : List ℕ} {s : Stop} → Halted entries lines w₁ slots second top n (top + 128) w₂ s → ShownBy entries lines w slots entry start len top w₂ (ran.Stop s)
+    pub then_second : {w₂ : List ℕ} {s : Stop} → Halted entries lines w₁ slots second top n (top + 128) w₂ s → ShownBy entries lines w slots entry start len top w₂ (Err s)
     unfolding show
     then_second {w₂} {s} y =
         record {
@@ -92,7 +108,7 @@ module _ {entries : List Entry} {lines : List Line} {w : List ℕ} {slots : Slot
         }
 
     pub then_done : {w₂ w₃ : List ℕ} {m : ℕ} → Got entries lines w₁ slots second top n (top + 128) w₂ m → w₃ ≡ put_at w₂ top (part w₂ (top + 128) m) → top + 256 ≤ length w₂
-        → ShownBy entries lines w slots entry start len top w₃ (ran.Value (record { start = top; len = m }))
+        → ShownBy entries lines w slots entry start len top w₃ (Ok (record { start = top; len = m }))
     unfolding show
     then_done {w₂} {w₃} {m} y p room =
         let k = y.small in
@@ -116,7 +132,7 @@ one_value entries w w' top n m f =
     ∙ sym (value_join (made_by entries) w' top n m)
 
 module _ {entries : List Entry} {lines : List Line} {w : List ℕ} {slots : SlotWords} {start len top : ℕ} (entry : ℕ) (op : (get_or entries entry no_entry).operation ≡ 0x09) where
-  pub beside_first : {w₁ : List ℕ} {s : Stop} → Halted entries lines w slots (entry + 1) start len top w₁ s → ShownBy entries lines w slots entry start len top w₁ (ran.Stop s)
+  pub beside_first : {w₁ : List ℕ} {s : Stop} → Halted entries lines w slots (entry + 1) start len top w₁ s → ShownBy entries lines w slots entry start len top w₁ (Err s)
   unfolding show
   beside_first {w₁} {s} x =
       record {
@@ -151,7 +167,7 @@ module _ {entries : List Entry} {lines : List Line} {w : List ℕ} {slots : Slot
               (same_run entries lines w w₁ bound x.frame start len below f.1)),
         )
 
-    pub beside_second : {w₂ : List ℕ} {s : Stop} → Halted entries lines w₁ slots second start len (top + n) w₂ s → ShownBy entries lines w slots entry start len top w₂ (ran.Stop s)
+    pub beside_second : {w₂ : List ℕ} {s : Stop} → Halted entries lines w₁ slots second start len (top + n) w₂ s → ShownBy entries lines w slots entry start len top w₂ (Err s)
     beside_second {w₂} {s} y =
         record {
           frame = frame_less w₁ w₂ (top + n) top y.frame (omega arith) ∙ x.frame;
@@ -162,7 +178,7 @@ module _ {entries : List Entry} {lines : List Line} {w : List ℕ} {slots : Slot
         }
 
     module _ {w₂ : List ℕ} {m : ℕ} (y : Got entries lines w₁ slots second start len (top + n) w₂ m) (fits : top + n + m ≤ length w₂) where
-      pub beside_large : 128 < n + m → ShownBy entries lines w slots entry start len top w₂ (ran.Stop (Size entry))
+      pub beside_large : 128 < n + m → ShownBy entries lines w slots entry start len top w₂ (Err (Size entry))
       beside_large h =
           record {
             frame = frame_less w₁ w₂ (top + n) top y.frame (omega arith) ∙ x.frame;
@@ -173,7 +189,7 @@ module _ {entries : List Entry} {lines : List Line} {w : List ℕ} {slots : Slot
                 sym (r.2 ∙ ap (behind (value_at (made_by entries) w₁ top n)) (turn_large entry n _ [] _ (y.is r.0 q r.1) (omega arith)));
           }
 
-      pub beside_done : n + m ≤ 128 → ShownBy entries lines w slots entry start len top w₂ (ran.Value (record { start = top; len = n + m }))
+      pub beside_done : n + m ≤ 128 → ShownBy entries lines w slots entry start len top w₂ (Ok (record { start = top; len = n + m }))
       beside_done h =
           record {
             frame = frame_less w₁ w₂ (top + n) top y.frame (omega arith) ∙ x.frame;
@@ -191,21 +207,21 @@ module _ {entries : List Entry} {lines : List Line} {w : List ℕ} {slots : Slot
 -- ## 0B
 
 module _ {entries : List Entry} {lines : List Line} {w : List ℕ} {slots : SlotWords} {start len top : ℕ} (entry : ℕ) (op : (get_or entries entry no_entry).operation ≡ 0x0B) where
-  module _ {w₁ : List ℕ} {r : Tested} (x : TestedBy entries lines w slots (entry + 1) start len top w₁ r) where
-    pub choose_stop : (s : Stop) → r ≡ tested.Stop s → ShownBy entries lines w slots entry start len top w₁ (ran.Stop s)
+  module _ {w₁ : List ℕ} where
+    pub choose_stop : {s : Stop} → TestedBy entries lines w slots (entry + 1) start len top w₁ (Err s) → ShownBy entries lines w slots entry start len top w₁ (Err s)
     unfolding show
-    choose_stop s h =
+    choose_stop {s} x =
         record {
           frame = x.frame;
           place = tt;
           meets = λ X q st.
               let f = at_choose entries X entry q st op in
               rw f.5
-              (choose_stops (test (lookup_of lines) f.0) (show (lookup_of lines) f.1)
-              (show (lookup_of lines) f.2) _ _ s (ap said_of (sym h) ∙ x.meets f.0 f.3 f.6));
+              (choose_stops (test (lookup_of lines) f.0) (show (lookup_of lines) f.1) (show (lookup_of lines) f.2) _ _ s (x.meets f.0 f.3 f.6));
         }
 
-    module _ {ends : List ℕ} (ended : Ended entries ends) (bound : Bound slots top) (below : start + len ≤ top) (b : Bool) (h : r ≡ tested.Says b) where
+    module _ {b : Bool} (x : TestedBy entries lines w slots (entry + 1) start len top w₁ (Ok b)) {ends : List ℕ} (ended : Ended entries ends)
+        (bound : Bound slots top) (below : start + len ≤ top) where
       -- what the test says decides which run is the entry's
       decided : (X : Transformation) (q : ℕ) (f : (P : Test) × (Y : Transformation) × (Z : Transformation) × (l : ℕ) × (m : ℕ) × (X ≡ choose entry P Y Z)
           × StandsTest entries P (entry + 1) l × Stands entries Y l m × Stands entries Z m q)
@@ -215,7 +231,7 @@ module _ {entries : List Entry} {lines : List Line} {w : List ℕ} {slots : Slot
       decided X q f =
           rw f.5
           (choose_says (test (lookup_of lines) f.0) (show (lookup_of lines) f.1)
-          (show (lookup_of lines) f.2) _ _ b (ap said_of (sym h) ∙ x.meets f.0 f.3 f.6))
+          (show (lookup_of lines) f.2) _ _ b (x.meets f.0 f.3 f.6))
 
       pub choose_done : {w₂ : List ℕ} {z : Run} → ShownBy entries lines w₁ slots (branch_at ends (entry + 1) b) start len top w₂ z
           → ShownBy entries lines w slots entry start len top w₂ z

@@ -4,10 +4,9 @@ use mathlib.Core.Bool.{Bool, true, false, ◌&&◌, not}
 use mathlib.Core.List.{List, [], ◌∷◌}
 use Prim.Native.Nat.{ℕ, zero, suc, ◌+◌, ◌-◌, ◌≤◌, ◌<◌}
 use native.Mathlib.Omega.{arith}
-use lib.ListN.{length, get_or}
-use borrow.Author.Tests.{not-true, not-false}
+use lib.ListN.{length, get_or, drop}
 use Rattle.values.specs.Values.{Node, Value, Lookup, element_of, no_top}
-use Rattle.values.specs.Engine.Words.{Made, node_of, value_at}
+use Rattle.values.specs.Engine.Words.{part, Made, node_of, value_of, value_at}
 use Rattle.values.proofs.Theorems.WordLaws.{length_value, value_none, value_cons}
 use Rattle.lines.specs.Theorems.Bools.{and_left, and_right}
 use Rattle.runs.specs.declared.stop.Stop.TheVariants.{Source}
@@ -15,12 +14,11 @@ use Rattle.runs.specs.Results.{gives, stops}
 use Rattle.runs.specs.Showing.{single, one_top, one_element, one_text}
 use Rattle.runs.specs.Engine.Leaves.{is_one_top, is_one_element, is_one_text}
 
--- what a test `!found` says
-pub found_yes : {r t : Bool} → r ≡ t → not r ≡ false → t ≡ true
-found_yes {r} e h = sym e ∙ not-false r h
-
-pub found_no : {r t : Bool} → r ≡ t → not r ≡ true → t ≡ false
-found_no {r} e h = sym e ∙ not-true r h
+-- what was found of an extent's words, as said of its value
+pub of_words : {A : Type 0} (made : Made) (words w : List ℕ) (start len : ℕ) (f : Value → A) {b : A}
+    → b ≡ f (value_of made words) → words ≡ part w start len → f (value_at made w start len) ≡ b
+unfolding value_at
+of_words made words w start len f e p = sym (e ∙ ap (λ (l : List ℕ). f (value_of made l)) p)
 
 -- ## The rules' needs, by the tests
 
@@ -58,6 +56,49 @@ module _ (look : Lookup) where
   unfolding is_one_text one_text
   text_one e x h = rw h
 
+-- ## The same of words
+
+module _ (made : Made) where
+  pub no_word : (words : List ℕ) → length words < 1 → false ≡ is_one_top (value_of made words)
+  unfolding is_one_top
+  no_word [] h = refl
+  no_word (x ∷ l) h = absurd (omega arith)
+
+  pub first_word : (words : List ℕ) → 1 ≤ length words → {r : Bool} → r ≡ no_top (value_of made (drop 1 words)) → r ≡ is_one_top (value_of made words)
+  unfolding is_one_top
+  first_word [] h e = absurd (omega arith)
+  first_word (x ∷ l) h e = e
+
+  pub some_word : (words : List ℕ) → true ≡ is_one_top (value_of made words) → 0 < length words
+  unfolding is_one_top
+  some_word [] h = let z : ◌≡◌ {A = ℕ} 0 1 = cc in absurd (omega arith)
+  some_word (x ∷ l) h = omega arith
+
+  module _ (look : Lookup) where
+    pub element_word : (words : List ℕ) → true ≡ is_one_top (value_of made words)
+        → {r : Bool} → r ≡ element_of look (node_of made (get_or words 0 0)).origin → r ≡ is_one_element look (value_of made words)
+    unfolding is_one_top is_one_element
+    element_word [] h e = let z : ◌≡◌ {A = ℕ} 0 1 = cc in absurd (omega arith)
+    element_word (x ∷ l) h e = rw (sym h) e
+
+    pub no_element_word : (words : List ℕ) → false ≡ is_one_top (value_of made words) → false ≡ is_one_element look (value_of made words)
+    unfolding is_one_top is_one_element
+    no_element_word [] h = refl
+    no_element_word (x ∷ l) h = rw (sym h)
+
+    pub text_word : (words : List ℕ) → length words ≡ 1
+        → {r : Bool} → r ≡ element_of look (node_of made (get_or words 0 0)).origin → not r ≡ is_one_text look (value_of made words)
+    unfolding is_one_text
+    text_word [] h e = absurd (omega arith)
+    text_word (x ∷ []) h e = ap not e
+    text_word (x ∷ y ∷ l) h e = absurd (omega arith)
+
+    pub no_text_word : (words : List ℕ) → (length words ≡ 1 → ⊥) → false ≡ is_one_text look (value_of made words)
+    unfolding is_one_text
+    no_text_word [] h = refl
+    no_text_word (x ∷ []) h = absurd (h refl)
+    no_text_word (x ∷ y ∷ l) h = refl
+
 -- ## The same of an extent
 
 module _ (made : Made) (w : List ℕ) (start len : ℕ) (fits : start + len ≤ length w) where
@@ -66,14 +107,6 @@ module _ (made : Made) (w : List ℕ) (start len : ℕ) (fits : start + len ≤ 
 
   pub first_rest : 0 < len → value_at made w start len ≡ node_of made (get_or w start 0) ∷ value_at made w (start + 1) (len - 1)
   first_rest h = let e : len ≡ len - 1 + 1 = omega arith in ap (value_at made w start) e ∙ value_cons made w start (len - 1) (omega arith)
-
-  pub says_one_top : 0 < len → (r : Bool) → r ≡ no_top (value_at made w (start + 1) (len - 1)) → r ≡ is_one_top (value_at made w start len)
-  unfolding is_one_top
-  says_one_top h r e = rw (first_rest h) e
-
-  pub says_no_top : len ≡ 0 → false ≡ is_one_top (value_at made w start len)
-  unfolding is_one_top
-  says_no_top h = rw (none_first h)
 
   pub top_words : is_one_top (value_at made w start len) ≡ true → 0 < len
   unfolding is_one_top
@@ -88,19 +121,6 @@ module _ (made : Made) (w : List ℕ) (start len : ℕ) (fits : start + len ≤ 
   words_top e h = let q = first_rest (top_words h) in rw q (top_one e _ _ (rw q at h))
 
   module _ (look : Lookup) where
-    pub says_element : is_one_top (value_at made w start len) ≡ true
-        → (r : Bool) → r ≡ element_of look (node_of made (get_or w start 0)).origin → r ≡ is_one_element look (value_at made w start len)
-    unfolding is_one_top is_one_element
-    says_element h r e = let q = first_rest (top_words h) in let t : no_top (value_at made w (start + 1) (len - 1)) ≡ true = rw q at h in rw (q, t) e
-
-    pub says_no_element : is_one_top (value_at made w start len) ≡ false → false ≡ is_one_element look (value_at made w start len)
-    unfolding is_one_top is_one_element
-    says_no_element h = go (value_at made w start len) h
-      where
-        go : (v : Value) → is_one_top v ≡ false → false ≡ is_one_element look v
-        go [] k = refl
-        go (x ∷ v) k = rw k
-
     pub element_words : is_one_element look (value_at made w start len) ≡ true → 0 < len
     unfolding is_one_element
     element_words h = go len refl
@@ -115,19 +135,6 @@ module _ (made : Made) (w : List ℕ) (start len : ℕ) (fits : start + len ≤ 
 
     one_word : len ≡ 1 → value_at made w start len ≡ node_of made (get_or w start 0) ∷ []
     one_word h = first_rest (omega arith) ∙ ap (λ (v : Value). node_of made (get_or w start 0) ∷ v) (rw h (value_none made w (start + 1)))
-
-    pub says_text : len ≡ 1 → (r : Bool) → r ≡ element_of look (node_of made (get_or w start 0)).origin → not r ≡ is_one_text look (value_at made w start len)
-    unfolding is_one_text
-    says_text h r e = rw (one_word h) (ap not e)
-
-    many : (v : Value) → (length v ≡ 1 → ⊥) → false ≡ is_one_text look v
-    unfolding is_one_text
-    many [] h = refl
-    many (x ∷ []) h = absurd (h refl)
-    many (x ∷ y ∷ v) h = refl
-
-    pub says_no_text : (len ≡ 1 → ⊥) → false ≡ is_one_text look (value_at made w start len)
-    says_no_text h = many (value_at made w start len) (λ e. h (sym (length_value made w start len fits) ∙ e))
 
     pub text_words : is_one_text look (value_at made w start len) ≡ true → len ≡ 1
     unfolding is_one_text

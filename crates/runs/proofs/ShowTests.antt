@@ -5,6 +5,7 @@ use mathlib.Core.List.{List, []}
 use Prim.Native.Nat.{ℕ, ◌+◌, ◌≤◌}
 use native.Mathlib.Omega.{arith}
 use lib.ListN.{length, get_or}
+use Rattle.std.specs.Prelude.{Ok, Err}
 use Rattle.lines.specs.Texts.{agree}
 use Rattle.lines.specs.Nodes.{Line}
 use Rattle.lines.specs.Entries.{Entry}
@@ -14,7 +15,6 @@ use Rattle.values.proofs.Theorems.WordLaws.{value_none}
 use Rattle.runs.specs.declared.slots.SlotWords.{SlotWords}
 use Rattle.runs.specs.declared.stop.Stop.{Stop}
 use Rattle.runs.specs.declared.stop.Stop.TheVariants.{Source}
-use Rattle.runs.specs.declared.stop.Tested.TheVariants as tested
 use Rattle.runs.specs.Results.{gives}
 use Rattle.runs.specs.Programs.{Transformation}
 use Rattle.runs.specs.Reading.{no_entry}
@@ -29,7 +29,7 @@ use Rattle.runs.specs.Theorems.RunAnswers.{Got, Halted, Gave}
 use Rattle.runs.proofs.ShowRuns.{frame_word}
 
 module _ (entries : List Entry) (lines : List Line) (w : List ℕ) (slots : SlotWords) (entry start len top : ℕ) (op : (get_or entries entry no_entry).operation ≡ 0x11) where
-  pub equals_none : is_one_text (lookup_of lines) (value_at (made_by entries) w start len) ≡ false → TestedBy entries lines w slots entry start len top w (tested.Stop (Source entry))
+  pub equals_none : is_one_text (lookup_of lines) (value_at (made_by entries) w start len) ≡ false → TestedBy entries lines w slots entry start len top w (Err (Source entry))
   unfolding test
   equals_none h =
       record {
@@ -44,7 +44,7 @@ module _ (entries : List Entry) (lines : List Line) (w : List ℕ) (slots : Slot
     is_text : one_text (lookup_of lines) entry (value_at (made_by entries) w start len) ≡ gives (node_of (made_by entries) (get_or w start 0))
     is_text = words_text (made_by entries) w start len (omega arith) (lookup_of lines) entry one
 
-    pub equals_stop : {w₁ : List ℕ} {s : Stop} → Halted entries lines w slots (entry + 1) top 0 top w₁ s → TestedBy entries lines w slots entry start len top w₁ (tested.Stop s)
+    pub equals_stop : {w₁ : List ℕ} {s : Stop} → Halted entries lines w slots (entry + 1) top 0 top w₁ s → TestedBy entries lines w slots entry start len top w₁ (Err s)
     unfolding test
     equals_stop {w₁} {s} x =
         record {
@@ -59,7 +59,7 @@ module _ (entries : List Entry) (lines : List Line) (w : List ℕ) (slots : Slot
           → Gave (show (lookup_of lines) Y (slots_at (made_by entries) w slots) []) (value_at (made_by entries) w₁ top n)
       on_nothing Y q st = rw (value_none (made_by entries) w top) at (x.is Y q st)
 
-      pub equals_other : is_one_text (lookup_of lines) (value_at (made_by entries) w₁ top n) ≡ false → TestedBy entries lines w slots entry start len top w₁ (tested.Stop (Source entry))
+      pub equals_other : is_one_text (lookup_of lines) (value_at (made_by entries) w₁ top n) ≡ false → TestedBy entries lines w slots entry start len top w₁ (Err (Source entry))
       unfolding test
       equals_other h =
           record {
@@ -72,7 +72,7 @@ module _ (entries : List Entry) (lines : List Line) (w : List ℕ) (slots : Slot
 
       pub equals_done : is_one_text (lookup_of lines) (value_at (made_by entries) w₁ top n) ≡ true → (b : Bool)
           → b ≡ agree (bytes_of (lookup_of lines) (node_of (made_by entries) (get_or w₁ start 0)).origin) (bytes_of (lookup_of lines) (node_of (made_by entries) (get_or w₁ top 0)).origin)
-          → TestedBy entries lines w slots entry start len top w₁ (tested.Says b)
+          → TestedBy entries lines w slots entry start len top w₁ (Ok b)
       unfolding test
       equals_done h b e =
           let k = x.small in

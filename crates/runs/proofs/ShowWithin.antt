@@ -8,6 +8,7 @@ use lib.Dec.{leb, ltb}
 use lib.ListN.{length, get_or, take, drop, set, length-map, length-set}
 use lib.Seq.{get_or-set_same, drop-set-lt, take-set-le}
 use borrow.Author.Tests.{ltb-false, leb-true, le-leb, lt-leb}
+use Rattle.std.specs.Prelude.{Ok, Err}
 use Rattle.lines.specs.Theorems.Bools.{and_left, and_right}
 use Rattle.lines.specs.Nodes.{Line}
 use Rattle.lines.specs.Entries.{Entry}
@@ -21,7 +22,6 @@ use Rattle.values.specs.Theorems.Forests.{length_raised}
 use Rattle.runs.specs.declared.slots.SlotWords.{SlotWords}
 use Rattle.runs.specs.declared.stop.Stop.{Stop}
 use Rattle.runs.specs.declared.stop.Stop.TheVariants.{Source, Size}
-use Rattle.runs.specs.declared.stop.Run.TheVariants as ran
 use Rattle.runs.specs.Results.{gives}
 use Rattle.runs.specs.Programs.{Transformation}
 use Rattle.runs.specs.Reading.{no_entry}
@@ -64,7 +64,7 @@ shallow_before (x ∷ v) h =
 -- ## The returns
 
 module _ (entries : List Entry) (lines : List Line) (w : List ℕ) (slots : SlotWords) (entry start len top : ℕ) (op : (get_or entries entry no_entry).operation ≡ 0x07) where
-  pub within_none : is_one_element (lookup_of lines) (value_at (made_by entries) w start len) ≡ false → ShownBy entries lines w slots entry start len top w (ran.Stop (Source entry))
+  pub within_none : is_one_element (lookup_of lines) (value_at (made_by entries) w start len) ≡ false → ShownBy entries lines w slots entry start len top w (Err (Source entry))
   unfolding show
   within_none h =
       record {
@@ -85,7 +85,7 @@ module _ (entries : List Entry) (lines : List Line) (w : List ℕ) (slots : Slot
     is_source : one_element (lookup_of lines) entry (value_at (made_by entries) w start len) ≡ gives source
     is_source = words_element (made_by entries) w start len (omega arith) (lookup_of lines) entry one
 
-    left : Leaves (made_by entries) w top w₁ (ran.Value (record { start = top; len = len - 1 })) (gives (lowered (value_at (made_by entries) w (start + 1) (len - 1))))
+    left : Leaves (made_by entries) w top w₁ (Ok (record { start = top; len = len - 1 })) (gives (lowered (value_at (made_by entries) w (start + 1) (len - 1))))
     left = let s = some in lowered_put (made_by entries) w top (start + 1) (len - 1) p (omega arith) (omega arith) (omega arith)
 
     -- X runs on the contents
@@ -94,7 +94,7 @@ module _ (entries : List Entry) (lines : List Line) (w : List ℕ) (slots : Slot
     run_inner X = ap₂ (show (lookup_of lines) X) (slots_frame (made_by entries) w w₁ bound left.frame) (gives_inj _ _ left.meets)
 
     pub within_stop : {w₂ : List ℕ} {s : Stop} → Halted entries lines w₁ slots (entry + 1) top (len - 1) (top + 128) w₂ s
-        → ShownBy entries lines w slots entry start len top w₂ (ran.Stop s)
+        → ShownBy entries lines w slots entry start len top w₂ (Err s)
     unfolding show
     within_stop {w₂} {s} x =
         record {
@@ -121,7 +121,7 @@ module _ (entries : List Entry) (lines : List Line) (w : List ℕ) (slots : Slot
       long : length (raised inside) ≡ n
       long = let k = x.small in let l = kept in length_raised inside ∙ length_value (made_by entries) w₂ (top + 128) n (omega arith)
 
-      pub within_over : 128 < n + 1 → ShownBy entries lines w slots entry start len top w₂ (ran.Stop (Size entry))
+      pub within_over : 128 < n + 1 → ShownBy entries lines w slots entry start len top w₂ (Err (Size entry))
       unfolding show within_bounds
       within_over h =
           record {
@@ -177,7 +177,7 @@ module _ (entries : List Entry) (lines : List Line) (w : List ℕ) (slots : Slot
             rw (le-leb (suc (length (raised inside))) 128 (omega arith))
             (sym (ap shallow at_top ∙ ap (λ (b : Bool). leb source.top.depth 9 && b) (raised_shallow (made_by entries) (part w₂ (top + 128) n))))
 
-        pub within_deep : false ≡ shallow (value_at (made_by entries) w₄ top (n + 1)) → ShownBy entries lines w slots entry start len top w₄ (ran.Stop (Size entry))
+        pub within_deep : false ≡ shallow (value_at (made_by entries) w₄ top (n + 1)) → ShownBy entries lines w slots entry start len top w₄ (Err (Size entry))
         unfolding show
         within_deep d =
             record {
@@ -189,7 +189,7 @@ module _ (entries : List Entry) (lines : List Line) (w : List ℕ) (slots : Slot
             }
 
         pub within_done : true ≡ shallow (value_at (made_by entries) w₄ top (n + 1))
-            → ShownBy entries lines w slots entry start len top w₄ (ran.Value (record { start = top; len = n + 1 }))
+            → ShownBy entries lines w slots entry start len top w₄ (Ok (record { start = top; len = n + 1 }))
         unfolding show value_at shallow
         within_done d =
             let ok = ap shallow (sym at_top) ∙ sym d in

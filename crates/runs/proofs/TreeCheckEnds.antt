@@ -9,11 +9,10 @@ use lib.ListN.{length, get_or, set, length-set}
 use lib.Seq.{get_or-set_same, get_or-set_other}
 use borrow.Author.Tests.{ltb-true, ltb-false, eqb-true, eqb-false}
 use Rattle.lines.specs.Entries.{Entry}
-use Rattle.runs.specs.declared.tree.Checked.{Checked}
-use Rattle.runs.specs.declared.tree.Checked.TheVariants.{Next, Fault}
+use Rattle.std.specs.Prelude.{Result as Checked, Ok, Err}
 use Rattle.runs.specs.Results.{Result, gives, stops, ◌>>=◌}
 use Rattle.runs.specs.Reading.{Room}
-use Rattle.runs.specs.Engine.Checking.{Sized, EndedAt, EndedFrom, EndedUpTo, CheckedFrom}
+use Rattle.runs.specs.Engine.Checking.{EndedAt, EndedFrom, EndedUpTo, CheckedFrom}
 use Rattle.runs.specs.Engine.Ends.{end_of, end_below, end_at}
 use Rattle.runs.specs.Theorems.OneEnd.{one_end_of, one_test_end}
 
@@ -22,22 +21,19 @@ module _ {E : List Entry} where
   ended_kept : (ends ends' : List ℕ) (p : ℕ) → get_or ends' p 0 ≡ get_or ends p 0 → EndedAt E ends p → EndedAt E ends' p
   ended_kept ends ends' p e d = record { tree = λ X q s. e ∙ d.tree X q s; test = λ P q s. e ∙ d.test P q s }
 
-  pub fault_here : {ends : List ℕ} {entry p : ℕ} {wanted : Result ℕ ℕ} → wanted ≡ stops p → CheckedFrom E ends ends entry wanted (Fault p)
+  pub fault_here : {ends : List ℕ} {entry p : ℕ} {wanted : Result ℕ ℕ} → wanted ≡ stops p → CheckedFrom E ends ends entry wanted (Err p)
   fault_here e = record { answer = sym e; long = refl; before = λ p h. refl; ended = tt }
 
-  module _ {ends ends₁ : List ℕ} {entry : ℕ} {wanted : Result ℕ ℕ} {r : Checked} where
-    pub sized_still : {starts : List ℕ} → Sized starts ends → CheckedFrom E ends ends₁ entry wanted r → Sized starts ends₁
-    sized_still s d = record { few = s.few; long = omega (arith, s.long, d.long) }
-
+  module _ {ends ends₁ : List ℕ} {entry : ℕ} {wanted : Result ℕ ℕ} {r : Checked ℕ ℕ} where
     wanted_alike : (wanted' : Result ℕ ℕ) → wanted' ≡ wanted → CheckedFrom E ends ends₁ entry wanted r → CheckedFrom E ends ends₁ entry wanted' r
     wanted_alike wanted' e d = rw e d
 
-    fault_first : {p : ℕ} (f : ℕ → Result ℕ ℕ) → CheckedFrom E ends ends₁ entry wanted r → r ≡ Fault p → CheckedFrom E ends ends₁ entry (wanted >>= f) (Fault p)
+    fault_first : {p : ℕ} (f : ℕ → Result ℕ ℕ) → CheckedFrom E ends ends₁ entry wanted r → r ≡ Err p → CheckedFrom E ends ends₁ entry (wanted >>= f) (Err p)
     fault_first f d e = record { answer = rw (← d.answer, e); long = d.long; before = d.before; ended = tt }
 
     -- one part behind the other
-    one_then : {q : ℕ} {ends₂ : List ℕ} {s : Checked} (f : ℕ → Result ℕ ℕ)
-        → CheckedFrom E ends ends₁ entry wanted r → r ≡ Next q → CheckedFrom E ends₁ ends₂ q (f q) s → CheckedFrom E ends ends₂ entry (wanted >>= f) s
+    one_then : {q : ℕ} {ends₂ : List ℕ} {s : Checked ℕ ℕ} (f : ℕ → Result ℕ ℕ)
+        → CheckedFrom E ends ends₁ entry wanted r → r ≡ Ok q → CheckedFrom E ends₁ ends₂ q (f q) s → CheckedFrom E ends ends₂ entry (wanted >>= f) s
     one_then {q} {ends₂} {s} f a e b =
         record {
           answer = b.answer ∙ rw (← a.answer, e);
@@ -53,19 +49,19 @@ module _ {E : List Entry} where
         each_of n p d h i true e = ended_kept ends₁ ends₂ p (b.before p (ltb-true p q e)) (first.each p h (ltb-true p q e))
         each_of n p d h i false e = d.each p (ltb-false p q e) i
 
-        joined : (s : Checked) → EndedUpTo E ends₂ q s → EndedUpTo E ends₂ entry s
-        joined (Next n) d = record { forward = omega (arith, first.forward, d.forward); each = λ p h i. each_of n p d h i (ltb p q) refl }
-        joined (Fault p) d = tt
+        joined : (s : Checked ℕ ℕ) → EndedUpTo E ends₂ q s → EndedUpTo E ends₂ entry s
+        joined (Ok n) d = record { forward = omega (arith, first.forward, d.forward); each = λ p h i. each_of n p d h i (ltb p q) refl }
+        joined (Err p) d = tt
 
 -- ## An entry above its sub-entries
 
-module _ {E : List Entry} {ends ends₁ : List ℕ} {entry : ℕ} {wanted : Result ℕ ℕ} {r : Checked} (k : ℕ) (room : Room) (asked : Bool)
+module _ {E : List Entry} {ends ends₁ : List ℕ} {entry : ℕ} {wanted : Result ℕ ℕ} {r : Checked ℕ ℕ} (k : ℕ) (room : Room) (asked : Bool)
     (goes : end_at E k room asked entry ≡ wanted) (d : CheckedFrom E ends ends₁ (entry + 1) wanted r) where
-  pub fault_below : {p : ℕ} → r ≡ Fault p → CheckedFrom E ends ends₁ entry (end_at E k room asked entry) (Fault p)
+  pub fault_below : {p : ℕ} → r ≡ Err p → CheckedFrom E ends ends₁ entry (end_at E k room asked entry) (Err p)
   fault_below e = record { answer = (rw e at d.answer) ∙ sym goes; long = d.long; before = λ p h. d.before p (omega arith); ended = tt }
 
   -- where reading ended is where every tree that stands there ends
-  pub stored : {q : ℕ} → entry < length ends → r ≡ Next q → CheckedFrom E ends (set ends₁ entry q) entry (end_at E k room asked entry) (Next q)
+  pub stored : {q : ℕ} → entry < length ends → r ≡ Ok q → CheckedFrom E ends (set ends₁ entry q) entry (end_at E k room asked entry) (Ok q)
   stored {q} h e =
       record {
         answer = answered;
@@ -105,12 +101,12 @@ abbrev tests : List Entry → ℕ → Room → ℕ → Result ℕ ℕ
 tests E k room q = end_at E k room true q
 
 module _ {E : List Entry} (k : ℕ) (room : Room) where
-  pub none_below : {ends : List ℕ} {entry : ℕ} (n : ℕ) → n ≡ 0 → CheckedFrom E ends ends entry (end_below (trees E k room) (tests E k room) n entry) (Next entry)
+  pub none_below : {ends : List ℕ} {entry : ℕ} (n : ℕ) → n ≡ 0 → CheckedFrom E ends ends entry (end_below (trees E k room) (tests E k room) n entry) (Ok entry)
   unfolding end_below end_of
   none_below n e =
       record { answer = rw e; long = refl; before = λ p h. refl; ended = record { forward = omega arith; each = λ p a b. absurd (omega arith) } }
 
-  module _ {ends ends₁ : List ℕ} {entry : ℕ} {r : Checked} where
+  module _ {ends ends₁ : List ℕ} {entry : ℕ} {r : Checked ℕ ℕ} where
     pub one_below : (n : ℕ) → n ≡ 1 → CheckedFrom E ends ends₁ entry (trees E k room entry) r
         → CheckedFrom E ends ends₁ entry (end_below (trees E k room) (tests E k room) n entry) r
     unfolding end_below end_of
@@ -121,23 +117,23 @@ module _ {E : List Entry} (k : ℕ) (room : Room) where
     unfolding end_below
     two_below n e d = wanted_alike _ (rw e) d
 
-    pub two_fault : {p : ℕ} → CheckedFrom E ends ends₁ entry (trees E k room entry) r → r ≡ Fault p → CheckedFrom E ends ends₁ entry (end_of (trees E k room) 2 entry) (Fault p)
+    pub two_fault : {p : ℕ} → CheckedFrom E ends ends₁ entry (trees E k room entry) r → r ≡ Err p → CheckedFrom E ends ends₁ entry (end_of (trees E k room) 2 entry) (Err p)
     unfolding end_of
     two_fault d e = fault_first (λ q. end_of (trees E k room) 1 q) d e
 
-    pub two_then : {q : ℕ} {ends₂ : List ℕ} {s : Checked}
-        → CheckedFrom E ends ends₁ entry (trees E k room entry) r → r ≡ Next q
+    pub two_then : {q : ℕ} {ends₂ : List ℕ} {s : Checked ℕ ℕ}
+        → CheckedFrom E ends ends₁ entry (trees E k room entry) r → r ≡ Ok q
         → CheckedFrom E ends₁ ends₂ q (trees E k room q) s → CheckedFrom E ends ends₂ entry (end_of (trees E k room) 2 entry) s
     unfolding end_of
     two_then {q} d e x = one_then (λ q. end_of (trees E k room) 1 q) d e (wanted_alike _ (bind_gives (trees E k room q)) x)
 
-    pub choice_fault : {p : ℕ} → CheckedFrom E ends ends₁ entry (tests E k room entry) r → r ≡ Fault p
-        → CheckedFrom E ends ends₁ entry (end_below (trees E k room) (tests E k room) 3 entry) (Fault p)
+    pub choice_fault : {p : ℕ} → CheckedFrom E ends ends₁ entry (tests E k room entry) r → r ≡ Err p
+        → CheckedFrom E ends ends₁ entry (end_below (trees E k room) (tests E k room) 3 entry) (Err p)
     unfolding end_below
     choice_fault d e = fault_first (λ q. end_of (trees E k room) 2 q) d e
 
-    pub choice_then : {q : ℕ} {ends₂ : List ℕ} {s : Checked}
-        → CheckedFrom E ends ends₁ entry (tests E k room entry) r → r ≡ Next q → CheckedFrom E ends₁ ends₂ q (end_of (trees E k room) 2 q) s
+    pub choice_then : {q : ℕ} {ends₂ : List ℕ} {s : Checked ℕ ℕ}
+        → CheckedFrom E ends ends₁ entry (tests E k room entry) r → r ≡ Ok q → CheckedFrom E ends₁ ends₂ q (end_of (trees E k room) 2 q) s
         → CheckedFrom E ends ends₂ entry (end_below (trees E k room) (tests E k room) 3 entry) s
     unfolding end_below
     choice_then d e x = one_then (λ q. end_of (trees E k room) 2 q) d e x

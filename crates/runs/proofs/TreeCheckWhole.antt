@@ -1,5 +1,6 @@
 -- The whole program: its fault, or the end of every entry.
 use mathlib.Core.Path.{◌≡◌, refl, sym, ◌∙◌}
+use Rattle.std.specs.Prelude.{None}
 use mathlib.Core.Bool.{false}
 use mathlib.Core.List.{List}
 use Prim.Native.Nat.{ℕ, ◌≤◌, ◌<◌}
@@ -7,10 +8,8 @@ use native.Mathlib.Omega.{arith}
 use lib.ListN.{length, get_or, take}
 use lib.Seq.{get_or-take, length-take-le}
 use borrow.Author.Tests.{le-leb, lt-leb}
-use Rattle.lines.specs.declared.verdict.Verdict.TheVariants as verdict
 use Rattle.lines.specs.Entries.{Entry}
-use Rattle.runs.specs.declared.tree.Checked.{Checked}
-use Rattle.runs.specs.declared.tree.Checked.TheVariants.{Next, Fault}
+use Rattle.std.specs.Prelude.{Result as Checked, Ok, Err}
 use Rattle.runs.specs.Results.{Result, gives, stops}
 use Rattle.runs.specs.Programs.{Transformation, Test}
 use Rattle.runs.specs.Reading.{Room, whole_room, most_levels, read_program, fault_of}
@@ -21,37 +20,37 @@ use Rattle.runs.specs.Engine.Trees.{Stands, StandsTest}
 use Rattle.runs.specs.Theorems.WholePrograms.{program_placed}
 use Rattle.runs.specs.Theorems.OneEnd.{OneEnd, one_end_of, one_test_end}
 
-read_some : {A : Type 0} (r : Result ℕ A) → verdict.Fine ≡ fault_of r → (a : A) × (r ≡ gives a)
+read_some : {A : Type 0} (r : Result ℕ A) → None ≡ fault_of r → (a : A) × (r ≡ gives a)
 unfolding fault_of
 read_some (gives a) e = (a, refl)
 read_some (stops p) e = let z : ◌≡◌ {A = ℕ} 0 1 = cc in absurd (omega arith)
 
-module _ {E : List Entry} {ends ends' : List ℕ} {r : Checked} (room : Room) (whole : room ≡ whole_room)
+module _ {E : List Entry} {ends ends' : List ℕ} {r : Checked ℕ ℕ} (room : Room) (whole : room ≡ whole_room)
     (d : CheckedFrom E ends ends' 0 (end_at E most_levels room false 0) r) where
-  answered : (s : Checked) → r ≡ s → end_at E most_levels whole_room false 0 ≡ answer_of s
+  answered : (s : Checked ℕ ℕ) → r ≡ s → end_at E most_levels whole_room false 0 ≡ answer_of s
   answered s e = rw (← whole, ← e) (sym d.answer)
 
-  pub whole_fault : {p : ℕ} → r ≡ Fault p → CheckedWhole E ends' (Fault p)
+  pub whole_fault : {p : ℕ} → r ≡ Err p → CheckedWhole E ends' (Err p)
   unfolding fault_of
-  whole_fault {p} e = record { verdict = sym (fault_by_table E ∙ rw (answered (Fault p) e)); ended = tt }
+  whole_fault {p} e = record { verdict = sym (fault_by_table E ∙ rw (answered (Err p) e)); ended = tt }
 
   -- the first line left over
-  pub whole_left : {q : ℕ} → r ≡ Next q → q < length E → CheckedWhole E ends' (Fault q)
+  pub whole_left : {q : ℕ} → r ≡ Ok q → q < length E → CheckedWhole E ends' (Err q)
   unfolding fault_of
-  whole_left {q} e h = record { verdict = sym (fault_by_table E ∙ rw (answered (Next q) e, lt-leb (length E) q h)); ended = tt }
+  whole_left {q} e h = record { verdict = sym (fault_by_table E ∙ rw (answered (Ok q) e, lt-leb (length E) q h)); ended = tt }
 
-  pub whole_ended : {q : ℕ} → r ≡ Next q → length E ≤ q → length E ≤ length ends → CheckedWhole E ends' (Next q)
+  pub whole_ended : {q : ℕ} → r ≡ Ok q → length E ≤ q → length E ≤ length ends → CheckedWhole E ends' (Ok q)
   unfolding fault_of
   whole_ended {q} e h l = record { verdict = fine; ended = (last, record { long = length-take-le q ends' fits ∙ last; tree = tree; test = test }) }
     where
-      fine : verdict.Fine ≡ fault_of (read_program E)
-      fine = sym (fault_by_table E ∙ rw (answered (Next q) e, le-leb (length E) q h))
+      fine : None ≡ fault_of (read_program E)
+      fine = sym (fault_by_table E ∙ rw (answered (Ok q) e, le-leb (length E) q h))
 
       -- the tree that is read ends behind the last line
       last : q ≡ length E
       last =
           let x = read_some (read_program E) fine in
-          sym ((one_end_of E x.0 0 (length E) (program_placed E x.0 x.1).stands).only most_levels whole_room false q (answered (Next q) e))
+          sym ((one_end_of E x.0 0 (length E) (program_placed E x.0 x.1).stands).only most_levels whole_room false q (answered (Ok q) e))
 
       fits : q ≤ length ends'
       fits = omega (arith, d.long, last)

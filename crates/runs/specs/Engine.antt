@@ -2,10 +2,10 @@
 -- Programs beside their entries
 pub mod Trees
 pub mod Ends
+pub mod Rooms
 pub mod Checking
 -- Values, standings and slots in the work slice, and where a run stands
 pub mod Runs
 pub mod SlotWords
 pub mod Ats
-pub mod Lookups
 pub mod Leaves

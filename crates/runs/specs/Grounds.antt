@@ -1,7 +1,5 @@
 -- The ground of a call: the numbered lines that a program runs over. Only `one_master` knows how many masters there are and where their numbers begin.
-use Rattle.std.specs.Prelude.{ℕ, suc, cond, List, [], ◌∷◌, map, eqb}
-use Rattle.lines.specs.declared.verdict.Verdict.{Verdict}
-use Rattle.lines.specs.declared.verdict.Verdict.TheVariants.{Fine, Fault}
+use Rattle.std.specs.Prelude.{ℕ, suc, cond, List, [], ◌∷◌, map, eqb, Option, None, Some}
 use Rattle.lines.specs.Nodes.{Line, is_element, untouched_mark, program_number, no_line}
 use Rattle.values.specs.Values.{Origin, master, program, Value, Lookup, bytes_of}
 use Rattle.values.specs.Standings.{Standing, ◌⋓◌, is_clash, gathered, brings, hands_back}
@@ -83,9 +81,9 @@ unfolding standing showing
 standing_for G X ls n = standing G X (brought (lookup_in G.lines) (value_of (showing G X)) ls) n
 
 -- reply 11, "a node's standing is clash": the first in the lines' order, which is the least number
-unfoldable pub first_clash : (ℕ → Standing) → List Numbered → Verdict
-first_clash standings [] = Fine
-first_clash standings (a ∷ ls) = cond (is_clash (standings a.number)) (Fault a.number) (first_clash standings ls)
+unfoldable pub first_clash : (ℕ → Standing) → List Numbered → Option ℕ
+first_clash standings [] = None
+first_clash standings (a ∷ ls) = cond (is_clash (standings a.number)) (Some a.number) (first_clash standings ls)
 
 -- the lines as they are handed back
 unfoldable pub handed_back : (ℕ → Standing) → List Numbered → List Numbered

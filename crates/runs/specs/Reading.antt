@@ -1,8 +1,6 @@
 -- Reading a program's entries into its tree. A fault is the place of the first faulty entry: reply 3.
 -- All faults of one entry have that entry's place, and a missing entry's place is the number of lines: no order of checks can be told.
-use Rattle.std.specs.Prelude.{ℕ, zero, suc, pred, cond, List, [], ◌∷◌, length, get_or, leb, eqb}
-use Rattle.lines.specs.declared.verdict.Verdict.{Verdict}
-use Rattle.lines.specs.declared.verdict.Verdict.TheVariants.{Fine, Fault}
+use Rattle.std.specs.Prelude.{ℕ, zero, suc, pred, cond, List, [], ◌∷◌, length, get_or, leb, eqb, Option, None, Some}
 use Rattle.lines.specs.Entries.{Entry, slot_of, text_of}
 use Rattle.values.specs.Values.{among}
 use Rattle.runs.specs.Results.{Result, gives, stops, ◌>>=◌, ◌>>◌, ensure}
@@ -158,6 +156,6 @@ unfolding read_in
 read_program entries = read_in entries whole_room
 
 -- reply 3: "program breaks the tree or a bound", at the fault
-unfoldable pub fault_of : {A : Type 0} → Result ℕ A → Verdict
-fault_of (gives a) = Fine
-fault_of (stops p) = Fault p
+unfoldable pub fault_of : {A : Type 0} → Result ℕ A → Option ℕ
+fault_of (gives a) = None
+fault_of (stops p) = Some p

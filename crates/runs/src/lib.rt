@@ -2,7 +2,7 @@
 #![tactic(auto)]
 
 pub mod at;
-pub mod lookup;
+pub mod inputs;
 pub mod put;
 pub mod show;
 pub mod slots;

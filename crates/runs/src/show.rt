@@ -1,84 +1,59 @@
 // Showing: each function leaves its value at `top`; below `top` nothing changes, and each level has room for a value.
 ghost use Rattle.std.specs.Prelude.{◌≡◌, true, [], ◌∷◌, ◌+◌, ◌≤◌, ◌<◌, length};
-ghost use Rattle.lines.specs.Engine.Starts.{lines_of, entries_of};
 ghost use Rattle.values.specs.Values.{among};
-ghost use Rattle.values.specs.Engine.Words.{Made, node_of, value_at};
+ghost use Rattle.values.specs.Engine.Words.{Made, node_of, value_of, value_at};
 ghost use Rattle.runs.specs.Results.{gives};
 ghost use Rattle.runs.specs.Programs.{tagged, is_element};
 ghost use Rattle.runs.specs.Showing.{value_in};
 ghost use Rattle.runs.specs.Engine.Runs.{made_by, lookup_of, slots_at, bytes_to, Bound};
-ghost use Rattle.runs.specs.Engine.Ats.{operation_at, tag_at, ReadyAt, ReadyTestAt, SpaceAt, ShownAt, TestedAt};
+ghost use Rattle.runs.specs.Engine.Ats.{operation_at, tag_at, ReadyAt, ReadyTestAt, SpaceAt, EnteredAt, EnteredTestAt, ShownAt, TestedAt};
 ghost use Rattle.runs.specs.Engine.Leaves.{is_one_top, is_one_element, is_one_text, LeafSpaceAt, LeavesAt, ContentsAt, SaysAt};
 
-use crate::at::{At, below, below_bound, below_on};
-use crate::lookup::{PROGRAM, agree, has_text, is_element_word, text_of_word};
-use crate::slots::find;
+use crate::at::At;
+use crate::inputs::Inputs;
 use crate::stop::{Run, Stop, Tested};
-use crate::tree::{after, chosen};
-use lines::fields::{entry_text, operation_at, slot_at};
 use values::extents::{Extent, MOST_NODES, VALUE_ROOM, copy};
-use values::nodes::{first_item, is_shallow, lower, no_top, raise};
+use values::nodes::{PROGRAM, first_item, is_shallow, lower, no_top, raise};
 
 // "exactly one top node"
-fn one_top(work: &[u32], start: usize, len: usize) -> bool
-    requires { start + len ≤ length work.now }
-    ensures { (made : Made) → result ≡ is_one_top (value_at made work.now start len) }
+fn one_top(words: &[u32]) -> bool
+    ensures { (made : Made) → result ≡ is_one_top (value_of made words.now) }
 {
-    if len == 0 {
-        return false;
+    match words {
+        [_, rest @ ..] => no_top(rest),
+        [] => false,
     }
-    no_top(work, start + 1, len - 1)
 }
 
 // "exactly one top node, an element"
-fn one_element(
-    prog: &[u8],
-    entries: &[u16],
-    master: &[u8],
-    nodes: &[u16],
-    work: &[u32],
-    start: usize,
-    len: usize,
-) -> bool
-    requires { start + len ≤ length work.now }
-    ensures { let made = made_by (entries_of prog.now entries.now) in
-        result ≡ is_one_element (lookup_of (lines_of master.now nodes.now)) (value_at made work.now start len) }
+fn one_element(inputs: &Inputs, words: &[u32]) -> bool
+    ensures { let made = made_by inputs.now.entries in
+        result ≡ is_one_element (lookup_of inputs.now.nodes) (value_of made words.now) }
 {
-    if !one_top(work, start, len) {
-        return false;
-    }
-    is_element_word(prog, entries, master, nodes, work[start])
+    one_top(words) && inputs.is_element(words[0])
 }
 
 // "exactly one text"
-fn one_text(
-    prog: &[u8],
-    entries: &[u16],
-    master: &[u8],
-    nodes: &[u16],
-    work: &[u32],
-    start: usize,
-    len: usize,
-) -> bool
-    requires { start + len ≤ length work.now }
-    ensures { let made = made_by (entries_of prog.now entries.now) in
-        result ≡ is_one_text (lookup_of (lines_of master.now nodes.now)) (value_at made work.now start len) }
+fn one_text(inputs: &Inputs, words: &[u32]) -> bool
+    ensures { let made = made_by inputs.now.entries in
+        result ≡ is_one_text (lookup_of inputs.now.nodes) (value_of made words.now) }
 {
-    if len != 1 {
-        return false;
+    match words {
+        [word] => !inputs.is_element(*word),
+        _ => false,
     }
-    !is_element_word(prog, entries, master, nodes, work[start])
 }
 
 // 01: the source itself.
 fn show_source(work: &mut [u32], at: At) -> Run
     requires { LeafSpaceAt work.old at }
-    ensures { (made : Made) → LeavesAt made work.old at work.new result (gives (value_at made work.old at.start at.len)) }
+    ensures { (made : Made) → LeavesAt made work.old at work.new result (gives (value_at made work.old at.source.start at.source.len)) }
 {
-    let top = at.top;
-    let len = at.len;
-    copy(work, at.start, len, top);
-    Run::Value(Extent { start: top, len })
+    copy(work, at.source, at.top);
+    Ok(Extent {
+        start: at.top,
+        len: at.source.len,
+    })
 }
 
 // 03, 04: a text or an empty element from the program.
@@ -86,9 +61,11 @@ fn show_made(work: &mut [u32], at: At) -> Run
     requires { at.top < length work.old }
     ensures { (made : Made) → LeavesAt made work.old at work.new result (gives (node_of made (0x8000 + at.entry) ∷ [])) }
 {
-    let top = at.top;
-    work[top] = PROGRAM + at.entry as u32;
-    Run::Value(Extent { start: top, len: 1 })
+    work[at.top] = PROGRAM + at.entry as u32;
+    Ok(Extent {
+        start: at.top,
+        len: 1,
+    })
 }
 
 // 05: the value of the slot.
@@ -98,394 +75,245 @@ fn show_slot(work: &mut [u32], at: At, byte: u8) -> Run
     requires count_value { among byte (bytes_to at.slots at.slots.count) ≡ true }
     ensures { (made : Made) → LeavesAt made work.old at work.new result (gives (value_in byte (slots_at made work.old at.slots))) }
 {
-    let slots = at.slots;
-    let k = find(slots, byte);
-    let starts = slots.starts;
-    let lens = slots.lens;
-    let start = starts[k] as usize;
-    let len = lens[k] as usize;
-    let top = at.top;
-    copy(work, start, len, top);
-    Run::Value(Extent { start: top, len })
+    let value = at.slots.value(at.slots.find(byte).unwrap());
+    copy(work, value, at.top);
+    Ok(Extent {
+        start: at.top,
+        len: value.len,
+    })
 }
 
 // 06: the contents of an element.
-fn show_contents(
-    prog: &[u8],
-    entries: &[u16],
-    master: &[u8],
-    nodes: &[u16],
-    work: &mut [u32],
-    at: At,
-) -> Run
+fn show_contents(inputs: &Inputs, work: &mut [u32], at: At) -> Run
     requires { LeafSpaceAt work.old at }
-    ensures { let E = entries_of prog.now entries.now in
-        ContentsAt E (lines_of master.now nodes.now) work.old at work.new result }
+    ensures { ContentsAt inputs.now.entries inputs.now.nodes work.old at work.new result }
 {
-    if !one_element(prog, entries, master, nodes, work, at.start, at.len) {
-        return Run::Stop(Stop::Source(at.entry));
+    if !one_element(inputs, at.source.words(work)) {
+        return Err(Stop::Source(at.entry));
     }
-    let top = at.top;
-    let len = at.len - 1;
-    lower(work, at.start + 1, len, top);
-    Run::Value(Extent { start: top, len })
+    let contents = at.source.skip(1);
+    lower(work, contents, at.top);
+    Ok(Extent {
+        start: at.top,
+        len: contents.len,
+    })
 }
 
 // Runs the entry on the source, an extent below top.
 #[cycle(showing)]
-pub fn show(
-    prog: &[u8],
-    entries: &[u16],
-    ends: &[u8],
-    master: &[u8],
-    nodes: &[u16],
-    work: &mut [u32],
-    at: At,
-) -> Run
-    requires ready_at { ReadyAt (entries_of prog.now entries.now) ends.now at }
+pub fn show(inputs: &Inputs, work: &mut [u32], at: At) -> Run
+    requires ready_at { ReadyAt inputs.now.entries inputs.now.ends.now at }
     requires space_at { SpaceAt work.old at }
-    ensures { let E = entries_of prog.now entries.now in
-        ShownAt E (lines_of master.now nodes.now) work.old at work.new result }
+    ensures { ShownAt inputs.now.entries inputs.now.nodes work.old at work.new result }
 {
-    let operation = operation_at(prog, entries[at.entry as usize]);
+    let entry = inputs.entry(at.entry);
+    let operation = entry.operation();
+    // Stays: what an operation byte means is decided by its range, 01 to 0C here and 11 to 13 at a test.
     match operation {
         0x01..=0x0C => match operation {
             0x01 => show_source(work, at),
-            0x02 => Run::Value(Extent {
+            0x02 => Ok(Extent {
                 start: at.top,
                 len: 0,
             }),
             0x03..=0x04 => show_made(work, at),
-            0x05 => show_slot(work, at, slot_at(prog, entries[at.entry as usize])),
-            0x06 => show_contents(prog, entries, master, nodes, work, at),
-            0x07 => show_within(prog, entries, ends, master, nodes, work, at),
-            0x08 => show_and_then(prog, entries, ends, master, nodes, work, at),
-            0x09 => show_beside(prog, entries, ends, master, nodes, work, at),
-            0x0A => show_each(prog, entries, ends, master, nodes, work, at),
-            0x0B => show_choose(prog, entries, ends, master, nodes, work, at),
-            _ => show_bind(prog, entries, ends, master, nodes, work, at),
+            0x05 => show_slot(work, at, entry.slot()),
+            0x06 => show_contents(inputs, work, at),
+            0x07 => show_within(inputs, work, at),
+            0x08 => show_and_then(inputs, work, at),
+            0x09 => show_beside(inputs, work, at),
+            0x0A => show_each(inputs, work, at),
+            0x0B => show_choose(inputs, work, at),
+            _ => show_bind(inputs, work, at),
         },
-        _ => Run::Stop(Stop::Source(at.entry)),
+        _ => Err(Stop::Source(at.entry)),
     }
 }
 
 // 07: an element with contents run through X.
 #[cycle(showing)]
-fn show_within(
-    prog: &[u8],
-    entries: &[u16],
-    ends: &[u8],
-    master: &[u8],
-    nodes: &[u16],
-    work: &mut [u32],
-    at: At,
-) -> Run
-    requires ready_at { ReadyAt (entries_of prog.now entries.now) ends.now at }
-    requires space_at { SpaceAt work.old at }
-    requires at_value { operation_at (entries_of prog.now entries.now) at ≡ 0x07 }
-    ensures { let E = entries_of prog.now entries.now in
-        ShownAt E (lines_of master.now nodes.now) work.old at work.new result }
+fn show_within(inputs: &Inputs, work: &mut [u32], at: At) -> Run
+    requires { EnteredAt inputs.now.entries inputs.now.ends.now work.old at 0x07 }
+    ensures { ShownAt inputs.now.entries inputs.now.nodes work.old at work.new result }
 {
-    if !one_element(prog, entries, master, nodes, work, at.start, at.len) {
-        return Run::Stop(Stop::Source(at.entry));
+    if !one_element(inputs, at.source.words(work)) {
+        return Err(Stop::Source(at.entry));
     }
-    let start = at.start;
     let top = at.top;
-    let above = top + VALUE_ROOM;
-    let rest = at.len - 1;
-    lower(work, start + 1, rest, top);
-    let inner = below_on(at, at.entry + 1, top, rest, above);
-    match show(prog, entries, ends, master, nodes, work, inner) {
-        Run::Stop(s) => Run::Stop(s),
-        Run::Value(v) => {
-            let n = v.len;
-            let len = n + 1;
-            if MOST_NODES < len {
-                return Run::Stop(Stop::Size(at.entry));
-            }
-            work[top] = work[start];
-            raise(work, above, n, top + 1);
-            if !is_shallow(work, top, len) {
-                return Run::Stop(Stop::Size(at.entry));
-            }
-            Run::Value(Extent { start: top, len })
-        }
+    let contents = at.source.skip(1);
+    lower(work, contents, top);
+    let lowered = Extent {
+        start: top,
+        len: contents.len,
+    };
+    let inner = show(
+        inputs,
+        work,
+        at.below_on(at.entry + 1, lowered, top + VALUE_ROOM),
+    )?;
+    let whole = Extent {
+        start: top,
+        len: inner.len + 1,
+    };
+    if MOST_NODES < whole.len {
+        return Err(Stop::Size(at.entry));
     }
+    work[top] = work[at.source.start];
+    raise(work, inner, top + 1);
+    if !is_shallow(whole.words(work)) {
+        return Err(Stop::Size(at.entry));
+    }
+    Ok(whole)
 }
 
 // 08: X1, then X2 on its result.
 #[cycle(showing)]
-fn show_and_then(
-    prog: &[u8],
-    entries: &[u16],
-    ends: &[u8],
-    master: &[u8],
-    nodes: &[u16],
-    work: &mut [u32],
-    at: At,
-) -> Run
-    requires ready_at { ReadyAt (entries_of prog.now entries.now) ends.now at }
-    requires space_at { SpaceAt work.old at }
-    requires at_value { operation_at (entries_of prog.now entries.now) at ≡ 0x08 }
-    ensures { let E = entries_of prog.now entries.now in
-        ShownAt E (lines_of master.now nodes.now) work.old at work.new result }
+fn show_and_then(inputs: &Inputs, work: &mut [u32], at: At) -> Run
+    requires { EnteredAt inputs.now.entries inputs.now.ends.now work.old at 0x08 }
+    ensures { ShownAt inputs.now.entries inputs.now.nodes work.old at work.new result }
 {
     let x1 = at.entry + 1;
-    let x2 = after(ends, x1);
-    let first = below(at, x1);
-    match show(prog, entries, ends, master, nodes, work, first) {
-        Run::Stop(s) => Run::Stop(s),
-        Run::Value(v) => {
-            let top = at.top;
-            let above = top + VALUE_ROOM;
-            let second = below_on(at, x2, top, v.len, above);
-            match show(prog, entries, ends, master, nodes, work, second) {
-                Run::Stop(s) => Run::Stop(s),
-                Run::Value(u) => {
-                    let len = u.len;
-                    copy(work, above, len, top);
-                    Run::Value(Extent { start: top, len })
-                }
-            }
-        }
-    }
+    let x2 = inputs.after(x1);
+    let first = show(inputs, work, at.below(x1))?;
+    let above = at.top + VALUE_ROOM;
+    let second = show(inputs, work, at.below_on(x2, first, above))?;
+    copy(work, second, at.top);
+    Ok(Extent {
+        start: at.top,
+        len: second.len,
+    })
 }
 
 // 09: both on the same source, joined.
 #[cycle(showing)]
-fn show_beside(
-    prog: &[u8],
-    entries: &[u16],
-    ends: &[u8],
-    master: &[u8],
-    nodes: &[u16],
-    work: &mut [u32],
-    at: At,
-) -> Run
-    requires ready_at { ReadyAt (entries_of prog.now entries.now) ends.now at }
-    requires space_at { SpaceAt work.old at }
-    requires at_value { operation_at (entries_of prog.now entries.now) at ≡ 0x09 }
-    ensures { let E = entries_of prog.now entries.now in
-        ShownAt E (lines_of master.now nodes.now) work.old at work.new result }
+fn show_beside(inputs: &Inputs, work: &mut [u32], at: At) -> Run
+    requires { EnteredAt inputs.now.entries inputs.now.ends.now work.old at 0x09 }
+    ensures { ShownAt inputs.now.entries inputs.now.nodes work.old at work.new result }
 {
     let x1 = at.entry + 1;
-    match show(prog, entries, ends, master, nodes, work, below(at, x1)) {
-        Run::Stop(s) => Run::Stop(s),
-        Run::Value(v) => {
-            let n = v.len;
-            let x2 = after(ends, x1);
-            let top = at.top;
-            let second = below_on(at, x2, at.start, at.len, top + n);
-            match show(prog, entries, ends, master, nodes, work, second) {
-                Run::Stop(s) => Run::Stop(s),
-                Run::Value(u) => {
-                    let len = n + u.len;
-                    if MOST_NODES < len {
-                        return Run::Stop(Stop::Size(at.entry));
-                    }
-                    Run::Value(Extent { start: top, len })
-                }
-            }
-        }
+    let x2 = inputs.after(x1);
+    let one = show(inputs, work, at.below(x1))?;
+    let behind = at.top + one.len;
+    let other = show(inputs, work, at.below_on(x2, at.source, behind))?;
+    let len = one.len + other.len;
+    if len <= MOST_NODES {
+        return Ok(Extent { start: at.top, len });
     }
+    Err(Stop::Size(at.entry))
 }
 
 // 0A: X on each top node, joined.
 #[cycle(showing)]
-fn show_each(
-    prog: &[u8],
-    entries: &[u16],
-    ends: &[u8],
-    master: &[u8],
-    nodes: &[u16],
-    work: &mut [u32],
-    at: At,
-) -> Run
-    requires ready_at { ReadyAt (entries_of prog.now entries.now) ends.now at }
-    requires space_at { SpaceAt work.old at }
-    requires at_value { operation_at (entries_of prog.now entries.now) at ≡ 0x0A }
-    ensures { let E = entries_of prog.now entries.now in
-        ShownAt E (lines_of master.now nodes.now) work.old at work.new result }
+fn show_each(inputs: &Inputs, work: &mut [u32], at: At) -> Run
+    requires { EnteredAt inputs.now.entries inputs.now.ends.now work.old at 0x0A }
+    ensures { ShownAt inputs.now.entries inputs.now.nodes work.old at work.new result }
 {
     let x = at.entry + 1;
-    let start = at.start;
-    let len = at.len;
-    let top = at.top;
-    let mut done: usize = 0;
+    let mut rest = at.source;
     let mut n: usize = 0;
-    while done < len {
-        let from = start + done;
-        let k = first_item(work, from, len - done);
-        let item = below_on(at, x, from, k, top + n);
-        match show(prog, entries, ends, master, nodes, work, item) {
-            Run::Stop(s) => {
-                return Run::Stop(s);
-            }
-            Run::Value(v) => {
-                let more = n + v.len;
-                if MOST_NODES < more {
-                    return Run::Stop(Stop::Size(at.entry));
-                }
-                n = more;
-                done += k;
-            }
+    // Stays: an item is as long as its words say, so that the steps are no range.
+    while 0 < rest.len {
+        let item = Extent {
+            start: rest.start,
+            len: first_item(rest.words(work)),
+        };
+        let shown = show(inputs, work, at.below_on(x, item, at.top + n))?;
+        let more = n + shown.len;
+        if MOST_NODES < more {
+            return Err(Stop::Size(at.entry));
         }
+        n = more;
+        rest = rest.skip(item.len);
     }
-    Run::Value(Extent { start: top, len: n })
+    Ok(Extent {
+        start: at.top,
+        len: n,
+    })
 }
 
 // 0B: if P then X1 else X2.
 #[cycle(showing)]
-fn show_choose(
-    prog: &[u8],
-    entries: &[u16],
-    ends: &[u8],
-    master: &[u8],
-    nodes: &[u16],
-    work: &mut [u32],
-    at: At,
-) -> Run
-    requires ready_at { ReadyAt (entries_of prog.now entries.now) ends.now at }
-    requires space_at { SpaceAt work.old at }
-    requires at_value { operation_at (entries_of prog.now entries.now) at ≡ 0x0B }
-    ensures { let E = entries_of prog.now entries.now in
-        ShownAt E (lines_of master.now nodes.now) work.old at work.new result }
+fn show_choose(inputs: &Inputs, work: &mut [u32], at: At) -> Run
+    requires { EnteredAt inputs.now.entries inputs.now.ends.now work.old at 0x0B }
+    ensures { ShownAt inputs.now.entries inputs.now.nodes work.old at work.new result }
 {
     let x = at.entry + 1;
-    match test(prog, entries, ends, master, nodes, work, below(at, x)) {
-        Tested::Stop(s) => Run::Stop(s),
-        Tested::Says(yes) => {
-            let branch = below(at, chosen(ends, x, yes));
-            show(prog, entries, ends, master, nodes, work, branch)
-        }
-    }
+    let yes = test(inputs, work, at.below(x))?;
+    let branch = inputs.chosen(x, yes);
+    show(inputs, work, at.below(branch))
 }
 
 // 0C: bind the slot to the source, run X on nothing.
 #[cycle(showing)]
-fn show_bind(
-    prog: &[u8],
-    entries: &[u16],
-    ends: &[u8],
-    master: &[u8],
-    nodes: &[u16],
-    work: &mut [u32],
-    at: At,
-) -> Run
-    requires ready_at { ReadyAt (entries_of prog.now entries.now) ends.now at }
-    requires space_at { SpaceAt work.old at }
-    requires at_value { operation_at (entries_of prog.now entries.now) at ≡ 0x0C }
-    ensures { let E = entries_of prog.now entries.now in
-        ShownAt E (lines_of master.now nodes.now) work.old at work.new result }
+fn show_bind(inputs: &Inputs, work: &mut [u32], at: At) -> Run
+    requires { EnteredAt inputs.now.entries inputs.now.ends.now work.old at 0x0C }
+    ensures { ShownAt inputs.now.entries inputs.now.nodes work.old at work.new result }
 {
-    let byte = slot_at(prog, entries[at.entry as usize]);
-    let inner = below_bound(at, byte);
-    show(prog, entries, ends, master, nodes, work, inner)
+    let byte = inputs.entry(at.entry).slot();
+    show(inputs, work, at.below_bound(byte))
 }
 
 // Runs the test on the source.
 #[cycle(showing)]
-pub fn test(
-    prog: &[u8],
-    entries: &[u16],
-    ends: &[u8],
-    master: &[u8],
-    nodes: &[u16],
-    work: &mut [u32],
-    at: At,
-) -> Tested
-    requires ready_test_at { ReadyTestAt (entries_of prog.now entries.now) ends.now at }
+pub fn test(inputs: &Inputs, work: &mut [u32], at: At) -> Tested
+    requires ready_test_at { ReadyTestAt inputs.now.entries inputs.now.ends.now at }
     requires space_at { SpaceAt work.old at }
-    ensures { let E = entries_of prog.now entries.now in
-        TestedAt E (lines_of master.now nodes.now) work.old at work.new result }
+    ensures { TestedAt inputs.now.entries inputs.now.nodes work.old at work.new result }
 {
-    let operation = operation_at(prog, entries[at.entry as usize]);
+    let operation = inputs.entry(at.entry).operation();
     match operation {
         0x11..=0x13 => match operation {
-            0x11 => test_equals(prog, entries, ends, master, nodes, work, at),
-            0x12 => test_tagged(prog, entries, master, nodes, work, at),
-            _ => test_element(prog, entries, master, nodes, work, at),
+            0x11 => test_equals(inputs, work, at),
+            0x12 => test_tagged(inputs, work, at),
+            _ => test_element(inputs, work, at),
         },
-        _ => Tested::Stop(Stop::Source(at.entry)),
+        _ => Err(Stop::Source(at.entry)),
     }
 }
 
 // 11: source text equals X run on nothing.
 #[cycle(showing)]
-fn test_equals(
-    prog: &[u8],
-    entries: &[u16],
-    ends: &[u8],
-    master: &[u8],
-    nodes: &[u16],
-    work: &mut [u32],
-    at: At,
-) -> Tested
-    requires ready_test_at { ReadyTestAt (entries_of prog.now entries.now) ends.now at }
-    requires space_at { SpaceAt work.old at }
-    requires at_value { operation_at (entries_of prog.now entries.now) at ≡ 0x11 }
-    ensures { let E = entries_of prog.now entries.now in
-        TestedAt E (lines_of master.now nodes.now) work.old at work.new result }
+fn test_equals(inputs: &Inputs, work: &mut [u32], at: At) -> Tested
+    requires { EnteredTestAt inputs.now.entries inputs.now.ends.now work.old at }
+    ensures { TestedAt inputs.now.entries inputs.now.nodes work.old at work.new result }
 {
-    if !one_text(prog, entries, master, nodes, work, at.start, at.len) {
-        return Tested::Stop(Stop::Source(at.entry));
+    if !one_text(inputs, at.source.words(work)) {
+        return Err(Stop::Source(at.entry));
     }
-    let start = at.start;
-    let top = at.top;
-    let inner = below_on(at, at.entry + 1, top, 0, top);
-    match show(prog, entries, ends, master, nodes, work, inner) {
-        Run::Stop(s) => Tested::Stop(s),
-        Run::Value(v) => {
-            let n = v.len;
-            if !one_text(prog, entries, master, nodes, work, top, n) {
-                return Tested::Stop(Stop::Source(at.entry));
-            }
-            let source = text_of_word(prog, entries, nodes, work[start]);
-            let other = text_of_word(prog, entries, nodes, work[top]);
-            Tested::Says(agree(prog, master, source, other))
-        }
+    let nothing = Extent {
+        start: at.top,
+        len: 0,
+    };
+    let other = show(inputs, work, at.below_on(at.entry + 1, nothing, at.top))?;
+    if !one_text(inputs, other.words(work)) {
+        return Err(Stop::Source(at.entry));
     }
+    let source_text = inputs.text(work[at.source.start]);
+    let other_text = inputs.text(work[other.start]);
+    Ok(source_text.agrees_with(&other_text))
 }
 
 // 12: element with this tag.
-fn test_tagged(
-    prog: &[u8],
-    entries: &[u16],
-    master: &[u8],
-    nodes: &[u16],
-    work: &[u32],
-    at: At,
-) -> Tested
-    requires len_in_bounds { at.start + at.len ≤ length work.now }
-    requires at_value { operation_at (entries_of prog.now entries.now) at ≡ 0x12 }
-    ensures { let E = entries_of prog.now entries.now in
-        SaysAt E (lines_of master.now nodes.now) work.now at result (tagged at.entry (tag_at E at)) }
+fn test_tagged(inputs: &Inputs, work: &[u32], at: At) -> Tested
+    requires len_in_bounds { at.source.start + at.source.len ≤ length work.now }
+    requires at_value { operation_at inputs.now.entries at ≡ 0x12 }
+    ensures { let E = inputs.now.entries in
+        SaysAt E inputs.now.nodes work.now at result (tagged at.entry (tag_at E at)) }
 {
-    if !one_element(prog, entries, master, nodes, work, at.start, at.len) {
-        return Tested::Stop(Stop::Source(at.entry));
+    if !one_element(inputs, at.source.words(work)) {
+        return Err(Stop::Source(at.entry));
     }
-    let start = at.start;
-    let node = text_of_word(prog, entries, nodes, work[start]);
-    let tag = entry_text(entries[at.entry as usize]);
-    Tested::Says(has_text(prog, master, node, prog, tag))
+    let tag = inputs.text(work[at.source.start]);
+    Ok(tag.is_same(&inputs.entry(at.entry).text()))
 }
 
 // 13: is an element.
-fn test_element(
-    prog: &[u8],
-    entries: &[u16],
-    master: &[u8],
-    nodes: &[u16],
-    work: &[u32],
-    at: At,
-) -> Tested
-    requires { at.start + at.len ≤ length work.now }
-    ensures { let E = entries_of prog.now entries.now in
-        SaysAt E (lines_of master.now nodes.now) work.now at result (is_element at.entry) }
+fn test_element(inputs: &Inputs, work: &[u32], at: At) -> Tested
+    requires { at.source.start + at.source.len ≤ length work.now }
+    ensures { SaysAt inputs.now.entries inputs.now.nodes work.now at result (is_element at.entry) }
 {
-    if !one_top(work, at.start, at.len) {
-        return Tested::Stop(Stop::Source(at.entry));
+    if !one_top(at.source.words(work)) {
+        return Err(Stop::Source(at.entry));
     }
-    let start = at.start;
-    Tested::Says(is_element_word(prog, entries, master, nodes, work[start]))
+    Ok(inputs.is_element(work[at.source.start]))
 }

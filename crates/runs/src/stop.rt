@@ -1,21 +1,13 @@
 // What a run answers: a value's extent, or a stop that says which kind and which entry.
 use values::extents::Extent;
 
-#[derive(Clone, Copy)]
+#[derive(Clone, Copy, Debug, PartialEq, Eq)]
 pub enum Stop {
     Source(u8),
     Size(u8),
 }
 
-#[derive(Clone, Copy)]
-pub enum Run {
-    Value(Extent),
-    Stop(Stop),
-}
+pub type Run = Result<Extent, Stop>;
 
 // What a test answers.
-#[derive(Clone, Copy)]
-pub enum Tested {
-    Says(bool),
-    Stop(Stop),
-}
+pub type Tested = Result<bool, Stop>;

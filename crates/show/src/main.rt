@@ -1,26 +1,28 @@
 // Shows master.hex through program.hex.
 #![tactic(auto)]
 
+use calls::reply::Reply;
 use calls::room::{OUT_ROOM, WORK_ROOM};
-use shell::print::{print_first, print_reply, print_unreadable};
-use shell::read::read_file;
+use calls::show::show;
+use shell::print::{print_answer, print_unreadable};
+use shell::read::{NODES_ROOM, PROGRAM_ROOM, read_file};
 use std::io;
+use std::rt::Files;
 
-// One byte more than the longest legal file tells that a file is too long.
+fn shown(files: &impl Files, out: &mut [u8]) -> io::Result<Reply> {
+    let mut master = [0u8; NODES_ROOM];
+    let mut program = [0u8; PROGRAM_ROOM];
+    let master = read_file(files, b"master.hex", &mut master)?;
+    let program = read_file(files, b"program.hex", &mut program)?;
+    let mut work = [0u32; WORK_ROOM];
+    Ok(show(master, program, out, &mut work))
+}
+
 fn main(rt: HostRuntime) -> io::Result<()> {
     let mut to = io::writer(&rt);
-    let mut master = [0u8; 9857];
-    let mut program = [0u8; 6625];
-    let Ok(m) = read_file(&rt, b"master.hex", &mut master) else {
-        return print_unreadable(&mut to);
-    };
-    let Ok(p) = read_file(&rt, b"program.hex", &mut program) else {
-        return print_unreadable(&mut to);
-    };
     let mut out = [0u8; OUT_ROOM];
-    let mut work = [0u32; WORK_ROOM];
-    let reply = calls::show::show(&master[0..m], &program[0..p], &mut out, &mut work);
-    print_reply(&mut to, reply.number, reply.place, reply.length)?;
-    print_first(&mut to, &out, reply.length as usize)?;
-    Ok(())
+    match shown(&rt, &mut out) {
+        Ok(reply) => print_answer(&mut to, reply, &out),
+        Err(_) => print_unreadable(&mut to),
+    }
 }

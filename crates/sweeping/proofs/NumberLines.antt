@@ -1,4 +1,5 @@
 -- Where the loop over the numbers stands: so many lines of five bytes are written, and what is left are the numbers of the lines to come.
+use Rattle.std.specs.Prelude.{Option, None}
 use mathlib.Core.Path.{◌≡◌, refl, sym, ap, ◌∙◌}
 use mathlib.Core.Bool.{Bool, true, false, cond}
 use mathlib.Core.List.{List, [], ◌∷◌, ◌++◌, append_assoc, append-nil}
@@ -12,23 +13,20 @@ use Rattle.lines.specs.Nodes.{Line, no_line}
 use Rattle.lines.specs.Writing.{put_at}
 use Rattle.lines.specs.Theorems.Lists.{drop_one}
 use Rattle.lines.specs.Theorems.PutAt.{length_put, put_none, put_join}
-use Rattle.sweeping.specs.declared.removal.Above.{Above}
-use Rattle.sweeping.specs.declared.removal.Above.TheVariants.{Nothing}
 use Rattle.sweeping.specs.Sweeping.{goes, behind, removed_under, removed, no_number, numbers_from, new_numbers, number_line, number_file}
 use Rattle.sweeping.specs.Theorems.Counting.{one_each, five_each}
-use Rattle.sweeping.specs.Engine.Parts.{NumberLineRoom, NumberGiven, NumbersRoom}
+use Rattle.sweeping.specs.Engine.Parts.{NumbersRoom}
 use Rattle.sweeping.proofs.Lists.{drop_some}
 
--- ## One line, store by store
+-- ## One line
 
-pub number_stored : (out : List ℕ) (pos n : ℕ) {high low : List ℕ}
-    → high ≡ sets out pos (encode (n / 256 ∷ [])) → low ≡ sets high (pos + 2) (encode (n % 256 ∷ []))
-    → pos + 5 ≤ length out → set low (pos + 4) 0x0A ≡ put_at out pos (number_line n)
+pub number_stored : (out : List ℕ) (pos n : ℕ) {bytes with_bytes : List ℕ} → bytes ≡ n / 256 % 256 ∷ n % 256 ∷ [] → n < 0x10000 → with_bytes ≡ sets out pos (encode bytes)
+    → pos + 5 ≤ length out → set with_bytes (pos + 4) 0x0A ≡ put_at out pos (number_line n)
 unfolding put_at number_line encode
-number_stored out pos n e f fits =
-    let two : pos + 2 ≡ suc (suc pos) = omega arith in
+number_stored out pos n e small f fits =
     let four : pos + 4 ≡ suc (suc (suc (suc pos))) = omega arith in
-    rw (f, e, two, four) (sets-eq (number_line n) out pos fits)
+    let high : n / 256 % 256 ≡ n / 256 = omega arith in
+    rw (f, e, high, four) (sets-eq (number_line n) out pos fits)
 
 -- ## The loop
 
@@ -46,33 +44,35 @@ unfolding numbers_from
 numbers_one k true gs = refl
 numbers_one k false gs = rw add-one refl
 
-pub record Numbering (ls : List Line) (out₀ out : List ℕ) (above : Above) (next i : ℕ) : Type 0 where
+-- the line of a node, gone or not, and the number for the next one that stays
+pub record Numbered (gone : Bool) (next pos : ℕ) (out out' : List ℕ) (next' : ℕ) : Type 0 where
+  pub line : out' ≡ put_at out pos (number_line (cond gone no_number next))
+  pub following : next' ≡ cond gone next (next + 1)
+
+pub record Numbering (ls : List Line) (out₀ out : List ℕ) (above : Option ℕ) (next i : ℕ) : Type 0 where
   pub long : length out ≡ length out₀
   pub so_far : out ≡ put_at out₀ 0 (number_file (take i (new_numbers ls)))
   pub left : drop i (new_numbers ls) ≡ numbers_from next (removed_under above (drop i ls))
   pub few : next ≤ i
 
 module _ {ls : List Line} {out₀ : List ℕ} (r : NumbersRoom ls out₀) where
-  pub numbering_starts : Numbering ls out₀ out₀ Nothing 0 0
+  pub numbering_starts : Numbering ls out₀ out₀ None 0 0
   unfolding new_numbers removed number_file
   numbering_starts = record { long = refl; so_far = put_none out₀ 0; left = refl; few = omega arith }
 
   -- line i, where the loop stands
-  module _ {out : List ℕ} {above : Above} {next i : ℕ} (p : Numbering ls out₀ out above next i) where
-    module _ (h : i < length ls) {l : Line} (here : get_or ls i no_line ≡ l) where
+  module _ {out : List ℕ} {above : Option ℕ} {next i : ℕ} (p : Numbering ls out₀ out above next i) where
+    module _ (h : i < length ls) {l : Line} (here : l ≡ get_or ls i no_line) where
       left_one : drop i (new_numbers ls)
           ≡ cond (goes above l) no_number next ∷ numbers_from (cond (goes above l) next (next + 1)) (removed_under (behind above l) (drop (i + 1) ls))
       unfolding removed_under
-      left_one = p.left ∙ rw (drop_one ls i no_line h, here) (numbers_one next (goes above l) (removed_under (behind above l) (drop (i + 1) ls)))
+      left_one = p.left ∙ rw (drop_one ls i no_line h, ← here) (numbers_one next (goes above l) (removed_under (behind above l) (drop (i + 1) ls)))
 
       some : (i < length (new_numbers ls)) × (get_or (new_numbers ls) i 0 ≡ cond (goes above l) no_number next)
           × (drop (i + 1) (new_numbers ls) ≡ numbers_from (cond (goes above l) next (next + 1)) (removed_under (behind above l) (drop (i + 1) ls)))
       some = drop_some (new_numbers ls) i 0 _ _ left_one
 
-      pub numbering_room : NumberLineRoom next (5 * i) out
-      numbering_room = let f = p.few in let w = r.few in record { few = omega arith; room = omega (arith, p.long, r.room) }
-
-      pub numbering_goes_on : {out' : List ℕ} {next' : ℕ} → NumberGiven (goes above l) next (5 * i) out out' next'
+      pub numbering_goes_on : {out' : List ℕ} {next' : ℕ} → Numbered (goes above l) next (5 * i) out out' next'
           → Numbering ls out₀ out' (behind above l) next' (i + 1)
       numbering_goes_on {out'} {next'} g =
           let before = number_file (take i (new_numbers ls)) in

@@ -1,36 +1,34 @@
 -- Sweeping: "every node that is deleted, or lies under a deleted one, goes; the rest keep their order and depths, lose their marks,
 -- take their new texts and are renumbered from 0". A line's text is the new one already: putting back returned it so.
-use Rattle.std.specs.Prelude.{ℕ, suc, ◌+◌, ◌*◌, ◌/◌, ◌%◌, Bool, false, cond, ◌||◌, List, [], ◌∷◌, ◌++◌, map, ltb, eqb, get_or}
+use Rattle.std.specs.Prelude.{ℕ, suc, ◌+◌, ◌*◌, ◌/◌, ◌%◌, Bool, false, cond, ◌||◌, List, [], ◌∷◌, ◌++◌, map, ltb, eqb, get_or, Option, Some, None}
 use Rattle.lines.specs.Hex.{decode, encode}
 use Rattle.lines.specs.Lines.{cut}
 use Rattle.lines.specs.Nodes.{Line, untouched_mark, deleted_mark}
-use Rattle.sweeping.specs.declared.removal.Above.{Above}
-use Rattle.sweeping.specs.declared.removal.Above.TheVariants.{Nothing, Deleted}
 
 -- ## Which lines go
 
 -- whether a line at this depth lies under what stands above it: no deleted node, or one at depth a
-unfoldable pub is_under : Above → ℕ → Bool
-is_under Nothing depth = false
-is_under (Deleted a) depth = ltb a depth
+unfoldable pub is_under : Option ℕ → ℕ → Bool
+is_under None depth = false
+is_under (Some a) depth = ltb a depth
 
 unfoldable pub is_deleted : Line → Bool
 is_deleted l = eqb l.mark deleted_mark
 
-unfoldable pub goes : Above → Line → Bool
+unfoldable pub goes : Option ℕ → Line → Bool
 goes above l = is_under above l.depth || is_deleted l
 
 -- what stands above the line behind it
-unfoldable pub behind : Above → Line → Above
-behind above l = cond (is_under above l.depth) above (cond (is_deleted l) (Deleted l.depth) Nothing)
+unfoldable pub behind : Option ℕ → Line → Option ℕ
+behind above l = cond (is_under above l.depth) above (cond (is_deleted l) (Some l.depth) None)
 
 -- of each line whether it goes: "told from the marks and depths alone"
-unfoldable pub removed_under : Above → List Line → List Bool
+unfoldable pub removed_under : Option ℕ → List Line → List Bool
 removed_under above [] = []
 removed_under above (l ∷ ls) = goes above l ∷ removed_under (behind above l) ls
 
 unfoldable pub removed : List Line → List Bool
-removed ls = removed_under Nothing ls
+removed ls = removed_under None ls
 
 -- ## The swept master
 

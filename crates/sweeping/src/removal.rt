@@ -1,46 +1,43 @@
 // Which nodes go: the deleted ones, and what lies under them.
-ghost use Rattle.std.specs.Prelude.{◌≡◌};
-ghost use Rattle.lines.specs.Engine.Starts.{node_at};
-ghost use Rattle.sweeping.specs.Sweeping.{is_under, goes, behind};
+ghost use Rattle.std.specs.Prelude.{◌≡◌, None};
+ghost use Rattle.sweeping.specs.Sweeping.{is_under, is_deleted, goes, behind};
 
-use lines::fields::{depth_at, mark_at};
+use lines::node::NodeLine;
 
-// What stands above a line: no deleted node, or one at this depth.
+const DELETED_MARK: u8 = 2;
+
+// A walk over a master's lines: the depth of the deleted node that stands above the next one, if one does.
 #[derive(Clone, Copy)]
-pub enum Above {
-    Nothing,
-    Deleted(u8),
+pub struct Removal {
+    pub above: Option<u8>,
 }
 
-fn is_under(above: Above, depth: u8) -> bool
-    ensures { result ≡ is_under above depth }
-{
-    match above {
-        Above::Nothing => false,
-        Above::Deleted(a) => a < depth,
+impl Removal {
+    pub fn new() -> Removal
+        ensures { result.above ≡ None }
+    {
+        Removal { above: None }
     }
-}
 
-// Whether the node of the line at `start` goes.
-pub fn goes_at(above: Above, s: &[u8], start: u16) -> bool
-    ensures { result ≡ goes above (node_at s.now start) }
-{
-    if is_under(above, depth_at(s, start)) {
-        return true;
+    #[tactic(auto, unfolding(crate::specs::Sweeping::is_under))]
+    fn is_over(self, line: &NodeLine) -> bool
+        ensures { result ≡ is_under self.above line.now.depth }
+    {
+        let depth = line.depth();
+        self.above.is_some_and(|deleted| deleted < depth)
     }
-    mark_at(s, start) == 2
-}
 
-// What stands above the line behind it.
-pub fn behind_at(above: Above, s: &[u8], start: u16) -> Above
-    ensures { result ≡ behind above (node_at s.now start) }
-{
-    let depth = depth_at(s, start);
-    if is_under(above, depth) {
-        return above;
+    // Whether the line's node goes. The walk then stands behind it.
+    #[tactic(auto, unfolding(crate::specs::Sweeping::goes, crate::specs::Sweeping::behind, crate::specs::Sweeping::is_deleted))]
+    pub fn takes(&mut self, line: &NodeLine) -> bool
+        ensures answer { result ≡ goes self.old.above line.now }
+        ensures next { self.new.above ≡ behind self.old.above line.now }
+    {
+        if self.is_over(line) {
+            return true;
+        }
+        let is_deleted = line.mark() == DELETED_MARK;
+        self.above = is_deleted.then_some(line.depth());
+        is_deleted
     }
-    if mark_at(s, start) == 2 {
-        return Above::Deleted(depth);
-    }
-    Above::Nothing
 }

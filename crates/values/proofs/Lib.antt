@@ -1,3 +1,3 @@
 -- What the proofs of the functions share.
-pub mod Loops
+pub mod Words
 pub mod Theorems

@@ -1,7 +1,7 @@
-// Extents of words, moved as they are.
-ghost use Rattle.std.specs.Prelude.{◌≡◌, ◌⊎◌, ◌+◌, ◌≤◌, length, replicate};
+// Extents of words, moved as they are: the slice's own methods, with contracts that all say `put_at`.
+ghost use Rattle.std.specs.Prelude.{◌≡◌, ◌+◌, ◌-◌, ◌^◌, ◌<◌, ◌≤◌, length, replicate};
 ghost use Rattle.lines.specs.Writing.{put_at};
-ghost use Rattle.values.specs.Engine.Words.{part};
+ghost use Rattle.values.specs.Engine.Words.{LiesIn, part};
 
 // "A value has at most 128 nodes"
 pub const MOST_NODES: usize = 128;
@@ -10,44 +10,55 @@ pub const MOST_NODES: usize = 128;
 pub const VALUE_ROOM: usize = MOST_NODES;
 
 // Where a value's words lie.
+// Stays: an extent at a new place is written out, so that its fields compute in the proofs; a method's result would only equal them.
 #[derive(Clone, Copy)]
 pub struct Extent {
     pub start: usize,
     pub len: usize,
 }
 
-// To a place before the extent, or behind it.
-pub fn copy(work: &mut [u32], from: usize, len: usize, to: usize)
-    requires len_in_bounds { (from + len ≤ length work.old) × (to + len ≤ length work.old) }
-    requires fact { (to ≤ from) ⊎ (from + len ≤ to) }
-    ensures { work.new ≡ put_at work.old to (part work.old from len) }
-{
-    let mut i: usize = 0;
-    while i < len {
-        work[to + i] = work[from + i];
-        i += 1;
+impl Extent {
+    pub fn words<'a>(self, work: &'a [u32]) -> &'a [u32]
+        requires { LiesIn self work.now }
+        ensures { result.now ≡ part work.now self.start self.len }
+    {
+        &work[self.start..self.start + self.len]
     }
+
+    // What is behind its first `n` words.
+    pub fn skip(self, n: usize) -> Extent
+        requires { (n ≤ self.len) × (self.start + n < 2 ^ 64) }
+        ensures { (result.start ≡ self.start + n) × (result.len ≡ self.len - n) }
+    {
+        Extent {
+            start: self.start + n,
+            len: self.len - n,
+        }
+    }
+}
+
+// To another place, which may lie over the extent.
+#[tactic(auto, using(crate::proofs::Words::copied_put))]
+pub fn copy(work: &mut [u32], from: Extent, to: usize)
+    requires { LiesIn from work.old × (to + from.len ≤ length work.old) }
+    ensures { work.new ≡ put_at work.old to (part work.old from.start from.len) }
+{
+    work.copy_within(from.start..from.start + from.len, to);
 }
 
 // From one slice into another.
-pub fn bring(work: &mut [u32], to: usize, other: &[u32], from: usize, len: usize)
-    requires { (to + len ≤ length work.old) × (from + len ≤ length other.now) }
-    ensures { work.new ≡ put_at work.old to (part other.now from len) }
+#[tactic(auto, using(crate::proofs::Words::mid_put))]
+pub fn bring(work: &mut [u32], to: usize, other: &[u32], from: Extent)
+    requires { (to + from.len ≤ length work.old) × LiesIn from other.now }
+    ensures { work.new ≡ put_at work.old to (part other.now from.start from.len) }
 {
-    let mut i: usize = 0;
-    while i < len {
-        work[to + i] = other[from + i];
-        i += 1;
-    }
+    work[to..to + from.len].copy_from_slice(from.words(other));
 }
 
-pub fn fill(work: &mut [u32], to: usize, len: usize, word: u32)
-    requires { to + len ≤ length work.old }
-    ensures { work.new ≡ put_at work.old to (replicate len word) }
+#[tactic(auto, using(crate::proofs::Words::mid_put))]
+pub fn fill(work: &mut [u32], to: Extent, word: u32)
+    requires { LiesIn to work.old }
+    ensures { work.new ≡ put_at work.old to.start (replicate to.len word) }
 {
-    let mut i: usize = 0;
-    while i < len {
-        work[to + i] = word;
-        i += 1;
-    }
+    work[to.start..to.start + to.len].fill(word);
 }

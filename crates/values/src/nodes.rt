@@ -1,112 +1,118 @@
-// Values: an extent's top nodes, its first item, its depths.
-ghost use Rattle.std.specs.Prelude.{◌≡◌, map, ◌⊎◌, ◌+◌, ◌-◌, ◌<◌, ◌≤◌, length};
+// Values: their top nodes, their first item, their depths.
+ghost use Rattle.std.specs.Prelude.{◌≡◌, ℕ, map, ◌+◌, ◌/◌, ◌<◌, ◌≤◌, length};
 ghost use Rattle.lines.specs.Writing.{put_at};
 ghost use Rattle.values.specs.Values.{no_top, under, shallow};
-ghost use Rattle.values.specs.Engine.Words.{Made, part, value_at, lowered_word, raised_word, leveled_word, FirstItem};
+ghost use Rattle.values.specs.Engine.Words.{LiesIn, Made, part, node_of, origin_named, value_of, lowered_word, raised_word, FirstItem};
+
+use crate::extents::{Extent, copy};
 
 // A word's depth is its high half.
+// Stays: a work slice is numbers of 32 bits.
 pub const LEVEL: u32 = 0x10000;
 
-// How many nodes stand before the first top node.
-fn nodes_under(work: &[u32], start: usize, len: usize) -> usize
-    requires { start + len ≤ length work.now }
-    ensures { ((made : Made) → result ≡ length (under (value_at made work.now start len))) × (result ≤ len) }
-{
-    let mut i: usize = 0;
-    while i < len {
-        if work[start + i] < LEVEL {
-            return i;
-        }
-        i += 1;
-    }
-    i
+// The low half of a word: from this on an entry of the program.
+pub const PROGRAM: u32 = 0x8000;
+
+// Where the node of a word comes from: the master's line of this number, or the program's entry at this place.
+#[derive(Clone, Copy)]
+pub enum WordOrigin {
+    Master(u16),
+    Program(u16),
 }
 
-// Whether no node of the extent is a top node.
-pub fn no_top(work: &[u32], start: usize, len: usize) -> bool
-    requires { start + len ≤ length work.now }
-    ensures { (made : Made) → result ≡ no_top (value_at made work.now start len) }
+#[tactic(auto, unfolding(crate::specs::Engine::Words::node_of, crate::specs::Engine::Words::origin_of))]
+pub fn origin_of(word: u32) -> WordOrigin
+    ensures { (made : Made) → (node_of made word).origin ≡ origin_named made result }
 {
-    nodes_under(work, start, len) == len
+    let origin = word % LEVEL;
+    match origin.checked_sub(PROGRAM) {
+        Some(entry) => WordOrigin::Program(entry as u16),
+        None => WordOrigin::Master(origin as u16),
+    }
+}
+
+// The depth of its node.
+pub fn depth_of(word: u32) -> u32
+    ensures { result ≡ word / 0x10000 }
+{
+    word / LEVEL
+}
+
+// How many nodes stand before the first top node.
+fn nodes_under(words: &[u32]) -> usize
+    ensures long { (made : Made) → result ≡ length (under (value_of made words.now)) }
+    ensures within { result ≤ length words.now }
+{
+    words
+        .iter()
+        .position(|word| *word < LEVEL)
+        .unwrap_or(words.len())
+}
+
+// Whether no node is a top node.
+pub fn no_top(words: &[u32]) -> bool
+    ensures { (made : Made) → result ≡ no_top (value_of made words.now) }
+{
+    words.iter().all(|word| *word >= LEVEL)
 }
 
 // How many nodes the first item has: up to the next top node.
-pub fn first_item(work: &[u32], start: usize, len: usize) -> usize
-    requires { (0 < len) × (start + len ≤ length work.now) }
-    ensures { FirstItem work.now start len result }
+pub fn first_item(words: &[u32]) -> usize
+    requires { 0 < length words.now }
+    ensures { FirstItem words.now result }
 {
-    1 + nodes_under(work, start + 1, len - 1)
+    1 + nodes_under(&words[1..])
 }
 
 // Whether each depth is within the bound.
-pub fn is_shallow(work: &[u32], start: usize, len: usize) -> bool
-    requires { start + len ≤ length work.now }
-    ensures { (made : Made) → result ≡ shallow (value_at made work.now start len) }
+pub fn is_shallow(words: &[u32]) -> bool
+    ensures { (made : Made) → result ≡ shallow (value_of made words.now) }
 {
-    let mut i: usize = 0;
-    while i < len {
-        if 9 < work[start + i] / LEVEL {
-            return false;
-        }
-        i += 1;
-    }
-    true
+    words.iter().all(|word| depth_of(*word) <= 9)
 }
 
-fn lowered_word(x: u32) -> u32
-    ensures { result ≡ lowered_word x }
+// A node one level up: a top node stays.
+#[tactic(auto, using(std::proofs::lemmas::Bool::Decides::nat_tests), unfolding(crate::specs::Engine::Words::lowered_word))]
+fn lowered_word(word: u32) -> u32
+    ensures { result ≡ lowered_word word }
 {
-    if x < LEVEL {
-        return x;
-    }
-    x - LEVEL
+    word.checked_sub(LEVEL).unwrap_or(word)
 }
 
-fn raised_word(x: u32) -> u32
-    ensures { result ≡ raised_word x }
+// A node one level down, where there is room.
+#[tactic(auto, using(std::proofs::lemmas::Bool::Decides::nat_tests), unfolding(crate::specs::Engine::Words::raised_word))]
+fn raised_word(word: u32) -> u32
+    ensures { result ≡ raised_word word }
 {
-    if x < 0xFFFF0000 {
-        return x + LEVEL;
-    }
-    x
+    word.checked_add(LEVEL).unwrap_or(word)
 }
 
-fn leveled_word(x: u32, up: bool) -> u32
-    ensures { result ≡ leveled_word up x }
+// The extent at another place, each node at the level that `level` gives it.
+fn relevel<F: Fn(u32) -> u32>(work: &mut [u32], from: Extent, to: usize, level: F)
+    requires bounds { LiesIn from work.old × (to + from.len ≤ length work.old) }
+    requires callable { F.IsAlwaysCallable level }
+    ensures { (f : ℕ → ℕ) → ((x y : ℕ) → F.post level x y → y ≡ f x)
+        → work.new ≡ put_at work.old to (map f (part work.old from.start from.len)) }
 {
-    if up {
-        return lowered_word(x);
-    }
-    raised_word(x)
-}
-
-// The extent at another place, each node one level up or down.
-fn relevel(work: &mut [u32], from: usize, len: usize, to: usize, up: bool)
-    requires len_in_bounds { (from + len ≤ length work.old) × (to + len ≤ length work.old) }
-    requires fact { (to ≤ from) ⊎ (from + len ≤ to) }
-    ensures { work.new ≡ put_at work.old to (map (leveled_word up) (part work.old from len)) }
-{
-    let mut i: usize = 0;
-    while i < len {
-        work[to + i] = leveled_word(work[from + i], up);
-        i += 1;
+    copy(work, from, to);
+    let words = &mut work[to..to + from.len];
+    for word in words.iter_mut() {
+        *word = level(*word);
     }
 }
 
 // The extent at another place, each node one level up: contents as a value.
-pub fn lower(work: &mut [u32], from: usize, len: usize, to: usize)
-    requires len_in_bounds { (from + len ≤ length work.old) × (to + len ≤ length work.old) }
-    requires fact { (to ≤ from) ⊎ (from + len ≤ to) }
-    ensures { work.new ≡ put_at work.old to (map lowered_word (part work.old from len)) }
+pub fn lower(work: &mut [u32], from: Extent, to: usize)
+    requires { LiesIn from work.old × (to + from.len ≤ length work.old) }
+    ensures { work.new ≡ put_at work.old to (map lowered_word (part work.old from.start from.len)) }
 {
-    relevel(work, from, len, to, true);
+    relevel(work, from, to, lowered_word);
 }
 
 // The extent at another place, each node one level down: a value as contents.
-pub fn raise(work: &mut [u32], from: usize, len: usize, to: usize)
-    requires len_in_bounds { (from + len ≤ length work.old) × (to + len ≤ length work.old) }
-    requires fact { (to ≤ from) ⊎ (from + len ≤ to) }
-    ensures { work.new ≡ put_at work.old to (map raised_word (part work.old from len)) }
+pub fn raise(work: &mut [u32], from: Extent, to: usize)
+    requires { LiesIn from work.old × (to + from.len ≤ length work.old) }
+    ensures { work.new ≡ put_at work.old to (map raised_word (part work.old from.start from.len)) }
 {
-    relevel(work, from, len, to, false);
+    relevel(work, from, to, raised_word);
 }

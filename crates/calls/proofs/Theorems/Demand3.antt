@@ -1,10 +1,8 @@
 -- Showing and putting back meet demand 3, on bytes.
-use Rattle.std.specs.Prelude.{ℕ, ◌≤◌, ◌<◌, ◌≡◌, refl, Bool, true, List, ◌⊎◌, length}
+use Rattle.std.specs.Prelude.{ℕ, ◌≤◌, ◌<◌, ◌≡◌, refl, Bool, true, List, ◌⊎◌, length, Option, None, Some}
 use Rattle.std.proofs.Common.{sym, ap, ◌∙◌, inl, inr, arith}
 use Rattle.std.proofs.Math.Bool.{false}
 use Rattle.lines.specs.declared.scan.File.TheVariants.{View}
-use Rattle.lines.specs.declared.verdict.Verdict.{Verdict}
-use Rattle.lines.specs.declared.verdict.Verdict.TheVariants.{Fine, Fault}
 use Rattle.lines.specs.Nodes.{Line, untouched_mark, program_number, kind_rule, nodes, line_at}
 use Rattle.lines.specs.Files.{scan}
 use Rattle.lines.specs.Verdicts.{reply}
@@ -103,7 +101,7 @@ module _ (master program edited out work : List ℕ) (given : Given master progr
   plain : (i : ℕ) → (line_at fresh i).mark ≡ untouched_mark
   plain = fresh_plain master ls given.sound_master o.value
 
-  passes : (first_difference es fresh ≡ Fine) × (program_mark es ≡ Fine)
+  passes : (first_difference es fresh ≡ None) × (program_mark es ≡ None)
   passes = edits_pass es fresh (λ i _. plain i) given.differs
 
   rule_at : (i : ℕ) → kind_rule (line_at es i).kind (line_at es i).mark (line_at es i).text ≡ true
@@ -182,16 +180,16 @@ module _ (master program edited out work : List ℕ) (given : Given master progr
   unfolding put_back_call
   done a = called_gives (judged_put_back master program edited) out work given.room hs (judged_standings_are ∙ standings_pass G given.tree es a)
 
-  clashed : (n : ℕ) → first_clash s G.lines ≡ Fault n → r ≡ outcome 11 n 0 out (cleared work)
+  clashed : (n : ℕ) → first_clash s G.lines ≡ Some n → r ≡ outcome 11 n 0 out (cleared work)
   unfolding put_back_call judged_standings keeps
   clashed n f = called_stops (judged_put_back master program edited) out work given.room (reply 11 n) (judged_standings_are ∙ rw f)
 
-  by_clash : {C : Type 0} → (Accepted G given.tree es → C) → ((n : ℕ) → first_clash s G.lines ≡ Fault n → C) → C
+  by_clash : {C : Type 0} → (Accepted G given.tree es → C) → ((n : ℕ) → first_clash s G.lines ≡ Some n → C) → C
   by_clash {C = C} fine fault = go (first_clash s G.lines) refl
     where
-      go : (v : Verdict) → first_clash s G.lines ≡ v → C
-      go Fine e = fine e
-      go (Fault n) e = fault n e
+      go : (v : Option ℕ) → first_clash s G.lines ≡ v → C
+      go None e = fine e
+      go (Some n) e = fault n e
 
   zero_accepted : number_of r ≡ 0 → Accepted G given.tree es
   zero_accepted h = by_clash (λ a. a) (λ n f. let e = ap number_of (clashed n f) in absurd (omega arith))

@@ -1,15 +1,13 @@
 -- The lines that a sound program shows of a sound master can be written, and are at most 128.
-use Rattle.std.specs.Prelude.{◌≡◌, refl, Bool, true, false, cond, ◌&&◌, ℕ, zero, suc, ◌+◌, ◌≤◌, ◌<◌, leb, ltb, eqb, length, get_or, drop}
+use Rattle.std.specs.Prelude.{◌≡◌, refl, Bool, true, false, cond, ◌&&◌, ℕ, zero, suc, ◌+◌, ◌≤◌, ◌<◌, leb, ltb, eqb, length, get_or, drop, None, Ok, Err}
 use Rattle.std.proofs.Common.{subst, arith, length-drop, leb-true, eqb-true}
 use mathlib.Core.List.{List, [], ◌∷◌, map}
 use Rattle.std.proofs.lemmas.List.{length-map}
 use Rattle.lines.specs.declared.scan.File.TheVariants.{Program}
-use Rattle.lines.specs.declared.scan.Scan.TheVariants.{Lines, Wrong}
-use Rattle.lines.specs.declared.verdict.Verdict.TheVariants.{Fine}
 use Rattle.lines.specs.Hex.{decode}
 use Rattle.lines.specs.Lines.{cut, is_line}
 use Rattle.lines.specs.Nodes.{Line, untouched_mark, is_tag, kind_rule}
-use Rattle.lines.specs.Entries.{Entry, rows, row_of, text_form, operand_form, entry_form, entry_line, entry_of, entries, text_of}
+use Rattle.lines.specs.Entries.{Entry, rows, row_of, operand_shape, text_form, operand_form, entry_form, entry_line, entry_of, entries, text_of}
 use Rattle.lines.specs.Files.{form_of, limit_of, scan_from, scan}
 use Rattle.lines.specs.Masters.{master_bounds}
 use Rattle.lines.specs.Writing.{file_of}
@@ -36,7 +34,7 @@ use Rattle.calls.specs.Theorems.Origins.{All, shows_all}
 -- ## The entries of a program whose lines have the form
 
 pub record EntryFormed (e : Entry) : Type 0 where
-  pub form : operand_form (row_of e.operation).0 e.operand ≡ true
+  pub form : operand_form (operand_shape e.operation) e.operand ≡ true
   pub bytes : Bytes e.operand
 
 drop_bytes : (b : List ℕ) → Bytes b → Bytes (drop 1 b)
@@ -48,15 +46,15 @@ unfolding entry_line entry_form
 line_formed c h = record { form = and_right (is_line c) _ h; bytes = drop_bytes (decode c) (decode_bytes c) }
 
 -- behind the last line no entry has an operation
-lines_formed : (limit k n : ℕ) (cs : List (List ℕ)) → scan_from entry_line limit k cs ≡ Lines n
+lines_formed : (limit k n : ℕ) (cs : List (List ℕ)) → scan_from entry_line limit k cs ≡ Ok n
     → (p b : ℕ) → (0 ≡ b → ⊥) → (get_or (map (λ c. entry_of (decode c)) cs) p no_entry).operation ≡ b → EntryFormed (get_or (map (λ c. entry_of (decode c)) cs) p no_entry)
 unfolding scan_from
 lines_formed limit k n [] h p b some o = absurd (some o)
 lines_formed limit k n (c ∷ cs) h p b some o = go (ltb k limit) (entry_line c) refl h p o (λ q p o. lines_formed limit (suc k) n cs q p b some o)
   where
-    go : (t u : Bool) → entry_line c ≡ u → cond (t && u) (scan_from entry_line limit (suc k) cs) (Wrong k) ≡ Lines n
+    go : (t u : Bool) → entry_line c ≡ u → cond (t && u) (scan_from entry_line limit (suc k) cs) (Err k) ≡ Ok n
         → (p : ℕ) → (get_or (entry_of (decode c) ∷ map (λ c. entry_of (decode c)) cs) p no_entry).operation ≡ b
-        → (scan_from entry_line limit (suc k) cs ≡ Lines n → (p : ℕ) → (get_or (map (λ c. entry_of (decode c)) cs) p no_entry).operation ≡ b
+        → (scan_from entry_line limit (suc k) cs ≡ Ok n → (p : ℕ) → (get_or (map (λ c. entry_of (decode c)) cs) p no_entry).operation ≡ b
         → EntryFormed (get_or (map (λ c. entry_of (decode c)) cs) p no_entry))
         → EntryFormed (get_or (entry_of (decode c) ∷ map (λ c. entry_of (decode c)) cs) p no_entry)
     go true true f q zero o ih = line_formed c f
@@ -64,7 +62,7 @@ lines_formed limit k n (c ∷ cs) h p b some o = go (ltb k limit) (entry_line c)
     go true false f q p o ih = absurd (let z : ◌≡◌ {A = ℕ} 0 1 = cc in omega arith)
     go false u f q p o ih = absurd (let z : ◌≡◌ {A = ℕ} 0 1 = cc in omega arith)
 
-pub scanned_entry : (s : List ℕ) (n : ℕ) → scan Program s ≡ Lines n
+pub scanned_entry : (s : List ℕ) (n : ℕ) → scan Program s ≡ Ok n
     → (p b : ℕ) → (0 ≡ b → ⊥) → (get_or (entries s) p no_entry).operation ≡ b → EntryFormed (get_or (entries s) p no_entry)
 unfolding scan form_of entries
 scanned_entry s n e p b some o = lines_formed (limit_of Program) 0 n (cut s) e p b some o
@@ -80,12 +78,12 @@ text_short b g e =
 
 made_text : (e : Entry) → EntryFormed e → e.operation ≡ 0x03 → Short (text_of e)
 unfolding row_of rows operand_form text_of
-made_text e f o = text_short e.operand f.bytes (subst (λ (b : ℕ). operand_form (row_of b).0 e.operand ≡ true) o f.form)
+made_text e f o = text_short e.operand f.bytes (subst (λ (b : ℕ). operand_form (operand_shape b) e.operand ≡ true) o f.form)
 
 made_tag : (e : Entry) → EntryFormed e → e.operation ≡ 0x04 → Short (text_of e) × (is_tag (text_of e) ≡ true)
 unfolding row_of rows operand_form text_of
 made_tag e f o =
-    let h : (text_form e.operand && is_tag (drop 1 e.operand)) ≡ true = subst (λ (b : ℕ). operand_form (row_of b).0 e.operand ≡ true) o f.form in
+    let h : (text_form e.operand && is_tag (drop 1 e.operand)) ≡ true = subst (λ (b : ℕ). operand_form (operand_shape b) e.operand ≡ true) o f.form in
     (text_short e.operand f.bytes (and_left (text_form e.operand) _ h), and_right (text_form e.operand) _ h)
 
 -- ## A master's lines by their numbers
@@ -141,12 +139,12 @@ shown_fits program X judged ls o shows =
 
 -- ## The theorems
 
-pub fresh_writable : (program : List ℕ) (X : Transformation) → judged_program program ≡ gives X → (ls : List Line) → AllWritable ls → length ls ≤ 128 → master_bounds ls ≡ Fine
+pub fresh_writable : (program : List ℕ) (X : Transformation) → judged_program program ≡ gives X → (ls : List Line) → AllWritable ls → length ls ≤ 128 → master_bounds ls ≡ None
     → (o : Shown) → showing (one_master ls) X ≡ gives o → AllWritable (view (one_master ls) o.value)
 fresh_writable program X judged ls form few bounds o shows =
     view_writable ls form few o.value (master_shows_good ls few bounds X o shows).low (shown_fits program X judged ls o shows)
 
-pub fresh_few : (ls : List Line) → length ls ≤ 128 → master_bounds ls ≡ Fine → (X : Transformation) (o : Shown) → showing (one_master ls) X ≡ gives o → length o.value ≤ 128
+pub fresh_few : (ls : List Line) → length ls ≤ 128 → master_bounds ls ≡ None → (X : Transformation) (o : Shown) → showing (one_master ls) X ≡ gives o → length o.value ≤ 128
 fresh_few ls few bounds X o shows = (master_shows_good ls few bounds X o shows).few
 
 pub length_view : (ls : List Line) (v : Value) → length (view (one_master ls) v) ≡ length v

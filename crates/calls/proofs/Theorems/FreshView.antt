@@ -1,8 +1,7 @@
 -- The fresh view put back returns the master's own bytes.
-use Rattle.std.specs.Prelude.{◌≡◌, refl, true, false, List, [], ◌∷◌, ℕ, suc, eqb, length, take}
+use Rattle.std.specs.Prelude.{◌≡◌, refl, true, false, List, [], ◌∷◌, ℕ, suc, eqb, length, take, None}
 use Rattle.std.proofs.Common.{sym, ap, subst, ◌∙◌, arith, eq-eqb}
 use Rattle.std.proofs.Math.Bool.{and-false}
-use Rattle.lines.specs.declared.verdict.Verdict.TheVariants.{Fine}
 use Rattle.lines.specs.Nodes.{Line, untouched_mark, program_number, is_marked, nodes}
 use Rattle.lines.specs.Masters.{unmarked}
 use Rattle.lines.specs.Verdicts.{first_from, earlier}
@@ -30,7 +29,7 @@ same_line_refl l =
     let text = or_right (eqb l.mark 1) true refl in
     rw (eq-eqb l.depth l.depth refl, eq-eqb l.kind l.kind refl, eq-eqb l.number l.number refl, same_text_refl l.text, text)
 
-no_difference : (k : ℕ) (ls : List Line) → difference_from k ls ls ≡ Fine
+no_difference : (k : ℕ) (ls : List Line) → difference_from k ls ls ≡ None
 unfolding difference_from
 no_difference k [] = refl
 no_difference k (l ∷ ls) = rw (same_line_refl l) (no_difference (suc k) ls)
@@ -41,7 +40,7 @@ untouched_line : (l : Line) → l.mark ≡ untouched_mark → program_marked l �
 unfolding program_marked is_marked
 untouched_line l h = rw h (and-false (eqb l.number program_number))
 
-no_program_mark : (ls : List Line) → Unmarked (numbered_from 0 ls) → (k : ℕ) (v : Value) → first_from program_marked k (view (one_master ls) v) ≡ Fine
+no_program_mark : (ls : List Line) → Unmarked (numbered_from 0 ls) → (k : ℕ) (v : Value) → first_from program_marked k (view (one_master ls) v) ≡ None
 unfolding first_from view
 no_program_mark ls u k [] = refl
 no_program_mark ls u k (x ∷ v) =
@@ -70,7 +69,7 @@ fresh_returns master program ls vs put shown =
 -- ## The theorem, on bytes
 
 -- a master that can be shown and carries no mark can be put back to
-unmarked_passes : (master : List ℕ) (ls : List Line) → judged_master false master ≡ gives ls → unmarked ls ≡ Fine → judged_master true master ≡ gives ls
+unmarked_passes : (master : List ℕ) (ls : List Line) → judged_master false master ≡ gives ls → unmarked ls ≡ None → judged_master true master ≡ gives ls
 unfolding master_rule earlier
 unmarked_passes master ls h u =
     let m = master_passed false master ls h in
@@ -82,7 +81,7 @@ unfolding called settled
 called_done ls out work room = rw room
 
 -- where a master without marks is shown, what the output begins with is put back to the master's own bytes
-pub fresh_view_returns : (master program out work : List ℕ) (place n : ℕ) (out' work' : List ℕ) → unmarked (nodes master) ≡ Fine
+pub fresh_view_returns : (master program out work : List ℕ) (place n : ℕ) (out' work' : List ℕ) → unmarked (nodes master) ≡ None
     → show_call master program out work ≡ outcome 0 place n out' work'
     → (out₂ work₂ : List ℕ) → enough out₂ work₂ ≡ true
     → put_back_call master program (take n out') out₂ work₂ ≡ outcome 0 0 (length master) (put_at out₂ 0 master) (cleared work₂)

@@ -1,12 +1,8 @@
 -- What a judging that was passed says of its file; and what passes it.
-use Rattle.std.specs.Prelude.{◌≡◌, refl, Bool, true, false, cond, List, ℕ, ◌≤◌, leb, length}
+use Rattle.std.specs.Prelude.{◌≡◌, refl, Bool, true, false, cond, List, ℕ, ◌≤◌, leb, length, Option, None, Some, Result as Answer, Ok, Err}
 use Rattle.std.proofs.Common.{sym, ap, subst, ◌∙◌, arith}
 use Rattle.std.proofs.lemmas.List.{length-map}
 use Rattle.lines.specs.declared.scan.File.TheVariants.{Program, Master, View}
-use Rattle.lines.specs.declared.scan.Scan.{Scan}
-use Rattle.lines.specs.declared.scan.Scan.TheVariants.{Lines, Wrong}
-use Rattle.lines.specs.declared.verdict.Verdict.{Verdict}
-use Rattle.lines.specs.declared.verdict.Verdict.TheVariants.{Fine, Fault}
 use Rattle.lines.specs.declared.scan.File.{File}
 use Rattle.lines.specs.Files.{scan, limit_of}
 use Rattle.lines.specs.Hex.{decode}
@@ -37,15 +33,15 @@ pub on_after : {E A C : Type 0} (r : Result E (Unit {0})) (s : Result E A) (a : 
 on_after (gives u) s a h k = k refl h
 on_after (stops e) s a h k = absurd (no_gives e a h)
 
-pub formed_lines : {C : Type 0} (k : ℕ) (s : Scan) → formed k s ≡ gives tt → ((n : ℕ) → s ≡ Lines n → C) → C
+pub formed_lines : {C : Type 0} (k : ℕ) (s : Answer ℕ ℕ) → formed k s ≡ gives tt → ((n : ℕ) → s ≡ Ok n → C) → C
 unfolding formed
-formed_lines k (Lines n) h f = f n refl
-formed_lines k (Wrong line) h f = absurd (no_gives (reply k line) tt h)
+formed_lines k (Ok n) h f = f n refl
+formed_lines k (Err line) h f = absurd (no_gives (reply k line) tt h)
 
-pub keeps_fine : (k : ℕ) (v : Verdict) → keeps k v ≡ gives tt → v ≡ Fine
+pub keeps_fine : (k : ℕ) (v : Option ℕ) → keeps k v ≡ gives tt → v ≡ None
 unfolding keeps
-keeps_fine k Fine h = refl
-keeps_fine k (Fault place) h = absurd (no_gives (reply k place) tt h)
+keeps_fine k None h = refl
+keeps_fine k (Some place) h = absurd (no_gives (reply k place) tt h)
 
 pub is_tree_gives : (k : ℕ) (r : Result ℕ Transformation) (X : Transformation) → is_tree k r ≡ gives X → r ≡ gives X
 unfolding is_tree
@@ -66,20 +62,20 @@ pub record Holds (s : List ℕ) (ls : List Line) : Type 0 where
   pub few : length ls ≤ 128
   pub file : file_of ls ≡ s
 
-length_nodes : (file : File) (s : List ℕ) (n : ℕ) → scan file s ≡ Lines n → length (nodes s) ≡ n
+length_nodes : (file : File) (s : List ℕ) (n : ℕ) → scan file s ≡ Ok n → length (nodes s) ≡ n
 unfolding nodes
 length_nodes file s n e = length-map (cut s) (λ c. node_of (decode c)) ∙ sym (scan_count file s n e)
 
-scanned_holds : (file : File) → OfNodes file → limit_of file ≡ 128 → (s : List ℕ) (n : ℕ) → scan file s ≡ Lines n → Holds s (nodes s)
+scanned_holds : (file : File) → OfNodes file → limit_of file ≡ 128 → (s : List ℕ) (n : ℕ) → scan file s ≡ Ok n → Holds s (nodes s)
 scanned_holds file of limit s n e =
-    let few = subst (λ (r : Scan). taken r ≤ limit_of file) e (scan_few file s) in
+    let few = subst (λ (r : Answer ℕ ℕ). taken r ≤ limit_of file) e (scan_few file s) in
     record { lines = refl; form = nodes_writable file of s n e; few = omega (arith, length_nodes file s n e); file = rewrite_file file of s n e }
 
-pub master_holds : (s : List ℕ) (n : ℕ) → scan Master s ≡ Lines n → Holds s (nodes s)
+pub master_holds : (s : List ℕ) (n : ℕ) → scan Master s ≡ Ok n → Holds s (nodes s)
 unfolding limit_of
 master_holds = scanned_holds Master master_of_nodes refl
 
-pub view_holds : (s : List ℕ) (n : ℕ) → scan View s ≡ Lines n → Holds s (nodes s)
+pub view_holds : (s : List ℕ) (n : ℕ) → scan View s ≡ Ok n → Holds s (nodes s)
 unfolding limit_of
 view_holds = scanned_holds View view_of_nodes refl
 
@@ -88,7 +84,7 @@ view_holds = scanned_holds View view_of_nodes refl
 -- 2 and 3: the program's lines have the form, and the tree is theirs
 pub record ProgramPassed (program : List ℕ) (X : Transformation) : Type 0 where
   pub count : ℕ
-  pub scanned : scan Program program ≡ Lines count
+  pub scanned : scan Program program ≡ Ok count
   pub read : read_program (entries program) ≡ gives X
 
 pub program_passed : (program : List ℕ) (X : Transformation) → judged_program program ≡ gives X → ProgramPassed program X
@@ -98,31 +94,31 @@ program_passed program X h =
     formed_lines 2 (scan Program program) f λ n e.
     record { count = n; scanned = e; read = is_tree_gives 3 (read_program (entries program)) X t }
 
-earlier_fine : (v w : Verdict) → earlier v w ≡ Fine → (v ≡ Fine) × (w ≡ Fine)
+earlier_fine : (v w : Option ℕ) → earlier v w ≡ None → (v ≡ None) × (w ≡ None)
 unfolding earlier
-earlier_fine Fine w h = (refl, h)
-earlier_fine (Fault i) Fine h = (h, refl)
-earlier_fine (Fault i) (Fault j) h = go (leb i j) h
+earlier_fine None w h = (refl, h)
+earlier_fine (Some i) None h = (h, refl)
+earlier_fine (Some i) (Some j) h = go (leb i j) h
   where
-    go : (b : Bool) → cond b (Fault i) (Fault j) ≡ Fine → (Fault i ≡ Fine) × (Fault j ≡ Fine)
+    go : (b : Bool) → cond b (Some i) (Some j) ≡ None → (Some i ≡ None) × (Some j ≡ None)
     go true q = (q, cc)
     go false q = (cc, q)
 
 -- the bounds hold whether marks are allowed or not
-pub rule_bounds : (putting : Bool) (ls : List Line) → master_rule putting ls ≡ Fine → master_bounds ls ≡ Fine
+pub rule_bounds : (putting : Bool) (ls : List Line) → master_rule putting ls ≡ None → master_bounds ls ≡ None
 unfolding master_rule
 rule_bounds false ls h = h
 rule_bounds true ls h = (earlier_fine (master_bounds ls) (unmarked ls) h).0
 
-pub rule_unmarked : (ls : List Line) → master_rule true ls ≡ Fine → unmarked ls ≡ Fine
+pub rule_unmarked : (ls : List Line) → master_rule true ls ≡ None → unmarked ls ≡ None
 unfolding master_rule
 rule_unmarked ls h = (earlier_fine (master_bounds ls) (unmarked ls) h).1
 
 -- 4 and 5
 pub record MasterPassed (putting : Bool) (master : List ℕ) (ls : List Line) : Type 0 where
   pub holds : Holds master ls
-  pub rule : master_rule putting ls ≡ Fine
-  pub bounds : master_bounds ls ≡ Fine
+  pub rule : master_rule putting ls ≡ None
+  pub bounds : master_bounds ls ≡ None
 
 pub master_passed : (putting : Bool) (master : List ℕ) (ls : List Line) → judged_master putting master ≡ gives ls → MasterPassed putting master ls
 unfolding judged_master
@@ -133,7 +129,7 @@ master_passed putting master ls h =
     let r = keeps_fine 5 (master_rule putting (nodes master)) k in
     on_gives (λ z. MasterPassed putting master z) (nodes master) ls h₂ (record { holds = master_holds master n e; rule = r; bounds = rule_bounds putting (nodes master) r })
 
-pub master_passes : (putting : Bool) (ls : List Line) → AllWritable ls → length ls ≤ 128 → master_rule putting ls ≡ Fine → judged_master putting (file_of ls) ≡ gives ls
+pub master_passes : (putting : Bool) (ls : List Line) → AllWritable ls → length ls ≤ 128 → master_rule putting ls ≡ None → judged_master putting (file_of ls) ≡ gives ls
 unfolding judged_master formed keeps limit_of
 master_passes putting ls form few rule = rw (scan_written Master master_of_nodes ls form few, nodes_written ls form, rule)
 
@@ -147,8 +143,8 @@ master_shows master ls h =
 -- 8, 9 and 10
 pub record ViewPassed (fresh : List Line) (edited : List ℕ) (es : List Line) : Type 0 where
   pub holds : Holds edited es
-  pub same : first_difference es fresh ≡ Fine
-  pub marks : program_mark es ≡ Fine
+  pub same : first_difference es fresh ≡ None
+  pub marks : program_mark es ≡ None
 
 pub view_passed : (fresh : List Line) (edited : List ℕ) (es : List Line) → judged_view fresh edited ≡ gives es → ViewPassed fresh edited es
 unfolding judged_view
@@ -160,19 +156,19 @@ view_passed fresh edited es h =
     on_gives (λ z. ViewPassed fresh edited z) (nodes edited) es h₃
     (record { holds = view_holds edited n e; same = keeps_fine 9 (first_difference (nodes edited) fresh) d; marks = keeps_fine 10 (program_mark (nodes edited)) m })
 
-pub view_passes : (fresh es : List Line) → AllWritable es → length es ≤ 128 → first_difference es fresh ≡ Fine → program_mark es ≡ Fine → judged_view fresh (file_of es) ≡ gives es
+pub view_passes : (fresh es : List Line) → AllWritable es → length es ≤ 128 → first_difference es fresh ≡ None → program_mark es ≡ None → judged_view fresh (file_of es) ≡ gives es
 unfolding judged_view formed keeps limit_of
 view_passes fresh es form few same marks = rw (scan_written View view_of_nodes es form few, nodes_written es form, same, marks)
 
 -- 11
 pub standings_passed : (G : Ground) (X : Transformation) (es hs : List Line) → judged_standings G X es ≡ gives hs
-    → (first_clash (standing_for G X es) G.lines ≡ Fine) × (lines_in (handed_back (standing_for G X es) G.lines) ≡ hs)
+    → (first_clash (standing_for G X es) G.lines ≡ None) × (lines_in (handed_back (standing_for G X es) G.lines) ≡ hs)
 unfolding judged_standings
 standings_passed G X es hs h =
     on_after (keeps 11 (first_clash (standing_for G X es) G.lines)) _ hs h λ k h₁.
     (keeps_fine 11 (first_clash (standing_for G X es) G.lines) k, gives_inj _ hs h₁)
 
-pub standings_pass : (G : Ground) (X : Transformation) (es : List Line) → first_clash (standing_for G X es) G.lines ≡ Fine
+pub standings_pass : (G : Ground) (X : Transformation) (es : List Line) → first_clash (standing_for G X es) G.lines ≡ None
     → judged_standings G X es ≡ gives (lines_in (handed_back (standing_for G X es) G.lines))
 unfolding judged_standings keeps
 standings_pass G X es h = rw h

@@ -1,12 +1,8 @@
 -- An outcome by its three ways: no room, refused, done. And which numbers a refusal has.
-use Rattle.std.specs.Prelude.{◌≡◌, refl, Bool, cond, List, ℕ, ◌≤◌, length, take}
+use Rattle.std.specs.Prelude.{◌≡◌, refl, Bool, cond, List, ℕ, ◌≤◌, length, take, Option, None, Some, Result as Answer, Ok, Err}
 use Rattle.std.proofs.Common.{subst, arith}
 use Rattle.std.proofs.Math.Bool.{true, false}
 use Rattle.lines.specs.declared.scan.File.TheVariants.{Program, Master, View}
-use Rattle.lines.specs.declared.scan.Scan.{Scan}
-use Rattle.lines.specs.declared.scan.Scan.TheVariants.{Lines, Wrong}
-use Rattle.lines.specs.declared.verdict.Verdict.{Verdict}
-use Rattle.lines.specs.declared.verdict.Verdict.TheVariants.{Fine, Fault}
 use Rattle.lines.specs.Files.{scan}
 use Rattle.lines.specs.Nodes.{Line, nodes}
 use Rattle.lines.specs.Entries.{entries}
@@ -45,15 +41,15 @@ module _ (S : ℕ → Type 0) where
   after_refusing (gives u) k j-refusing k-refusing r h = k-refusing r h
   after_refusing (stops e) k j-refusing k-refusing r h = subst (λ (z : Reply). S z.number) (let z : e ≡ r = cc in z) (j-refusing e refl)
 
-  formed_refusing : (k : ℕ) (s : Scan) → S k → Refusing S (formed k s)
+  formed_refusing : (k : ℕ) (s : Answer ℕ ℕ) → S k → Refusing S (formed k s)
   unfolding formed
-  formed_refusing k (Lines n) s = gives_refusing tt
-  formed_refusing k (Wrong line) s = stops_refusing k line s
+  formed_refusing k (Ok n) s = gives_refusing tt
+  formed_refusing k (Err line) s = stops_refusing k line s
 
-  keeps_refusing : (k : ℕ) (v : Verdict) → S k → Refusing S (keeps k v)
+  keeps_refusing : (k : ℕ) (v : Option ℕ) → S k → Refusing S (keeps k v)
   unfolding keeps
-  keeps_refusing k Fine s = gives_refusing tt
-  keeps_refusing k (Fault place) s = stops_refusing k place s
+  keeps_refusing k None s = gives_refusing tt
+  keeps_refusing k (Some place) s = stops_refusing k place s
 
   is_tree_refusing : (k : ℕ) (x : Result ℕ Transformation) → S k → Refusing S (is_tree k x)
   unfolding is_tree

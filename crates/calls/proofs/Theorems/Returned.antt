@@ -1,7 +1,6 @@
 -- The lines handed back can be written again, are as many as the master's, and keep its bounds. So the returned master is sound.
-use Rattle.std.specs.Prelude.{◌≡◌, true, false, List, ℕ, ◌≤◌, ◌<◌, length, take, get_or}
+use Rattle.std.specs.Prelude.{◌≡◌, true, false, List, ℕ, ◌≤◌, ◌<◌, length, take, get_or, None}
 use Rattle.std.proofs.Common.{sym, subst, ◌∙◌, arith}
-use Rattle.lines.specs.declared.verdict.Verdict.TheVariants.{Fine}
 use Rattle.lines.specs.Nodes.{Line, nodes, no_line}
 use Rattle.lines.specs.Masters.{master_bounds}
 use Rattle.lines.specs.Views.{first_difference}
@@ -32,15 +31,15 @@ use Rattle.calls.proofs.Theorems.FreshLines.{fields_of}
 pub record Returned (ls hs : List Line) : Type 0 where
   pub form : AllWritable hs
   pub long : length hs ≡ length ls
-  pub bounds : master_bounds hs ≡ Fine
+  pub bounds : master_bounds hs ≡ None
 
-module _ (ls : List Line) (form : AllWritable ls) (few : length ls ≤ 128) (bounds : master_bounds ls ≡ Fine)
+module _ (ls : List Line) (form : AllWritable ls) (few : length ls ≤ 128) (bounds : master_bounds ls ≡ None)
     (X : Transformation) (o : Shown) (shows : showing (one_master ls) X ≡ gives o)
-    (es : List Line) (edited-form : AllWritable es) (same : first_difference es (view (one_master ls) o.value) ≡ Fine) where
+    (es : List Line) (edited-form : AllWritable es) (same : first_difference es (view (one_master ls) o.value) ≡ None) where
   abbrev handed : List Line
   handed = lines_in (handed_back (standing_for (one_master ls) X es) (numbered_from 0 ls))
 
-  handed_bounds : master_bounds handed ≡ Fine
+  handed_bounds : master_bounds handed ≡ None
   handed_bounds = one_bounds (standing_for (one_master ls) X es) ls ∙ bounds
 
   handed_fields : Accepted (one_master ls) X es → (n : ℕ) → n < length handed → Fields (get_or handed n no_line)
@@ -63,7 +62,7 @@ module _ (ls : List Line) (form : AllWritable ls) (few : length ls ≤ 128) (bou
 -- ## On bytes
 
 pub returned_lines : (master program edited : List ℕ) (hs : List Line) → judged_put_back master program edited ≡ gives hs
-    → AllWritable hs × (length hs ≤ 128) × (master_bounds hs ≡ Fine)
+    → AllWritable hs × (length hs ≤ 128) × (master_bounds hs ≡ None)
 returned_lines master program edited hs h =
     let p = put_back_passed master program edited hs h in
     let m = master_passed true master p.ls p.master_judged in

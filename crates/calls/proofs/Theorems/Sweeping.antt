@@ -1,9 +1,8 @@
 -- The call sweep on bytes: its contract decides its outcome, its refusals, and that it is what request #103 asks.
-use Rattle.std.specs.Prelude.{ℕ, ◌*◌, ◌≤◌, ◌<◌, ◌≡◌, Bool, cond, List, ◌⊎◌, length, get_or, take, drop}
+use Rattle.std.specs.Prelude.{ℕ, ◌*◌, ◌≤◌, ◌<◌, ◌≡◌, Bool, cond, List, ◌⊎◌, length, get_or, take, drop, None}
 use Rattle.std.proofs.Math.Path.{refl}
 use Rattle.std.proofs.Common.{sym, ap, subst, ◌∙◌, inl, inr, arith}
 use Rattle.std.proofs.Math.Bool.{true, false}
-use Rattle.lines.specs.declared.verdict.Verdict.TheVariants.{Fine}
 use Rattle.lines.specs.Nodes.{Line, nodes}
 use Rattle.lines.specs.Verdicts.{Reply, earlier}
 use Rattle.lines.specs.Writing.{file_of, put_at}
@@ -147,7 +146,7 @@ module _ (master : List ℕ) (ls : List Line) (judged : judged_master false mast
     unfolding master_rule earlier
     swept_passes putting = rw sweep_wrote.file (master_passes putting (swept ls) form few (rule putting))
       where
-        rule : (putting : Bool) → master_rule putting (swept ls) ≡ Fine
+        rule : (putting : Bool) → master_rule putting (swept ls) ≡ None
         rule true = rw (swept_bounds ls passed.bounds, swept_unmarked ls)
         rule false = swept_bounds ls passed.bounds
 

@@ -1,14 +1,12 @@
 -- What the parts of a call ask and promise. A reader of the calls' own contracts needs only Judging and Outcomes.
-use Rattle.std.specs.Prelude.{ℕ, suc, ◌+◌, ◌*◌, ◌-◌, ◌≤◌, ◌<◌, ◌≡◌, Bool, true, cond, List, [], ◌∷◌, map, leb, eqb, length, take, get_or}
+use Rattle.std.specs.Prelude.{ℕ, suc, ◌+◌, ◌*◌, ◌≤◌, ◌<◌, ◌≡◌, Bool, true, cond, List, [], ◌∷◌, map, leb, eqb, length, take, get_or, None, Result as Answer, Ok, Err}
 use Rattle.lines.specs.Texts.{same_text}
 use Rattle.lines.specs.Nodes.{Line, nodes, changed_mark, deleted_mark, no_line, line_at}
 use Rattle.lines.specs.Entries.{Entry, entries}
 use Rattle.lines.specs.Masters.{master_bounds}
 use Rattle.lines.specs.Verdicts.{reply}
 use Rattle.lines.specs.Views.{counted_lines}
-use Rattle.lines.specs.declared.verdict.Verdict.TheVariants.{Fine}
 use Rattle.lines.specs.Writing.{file_of}
-use Rattle.lines.specs.Engine.Starts.{lines_of, entries_of}
 use Rattle.lines.specs.Engine.Sums.{text_sum}
 use Rattle.lines.specs.Engine.Writes.{AllWritable}
 use Rattle.values.specs.Values.{within_bounds}
@@ -22,12 +20,12 @@ use Rattle.runs.specs.Grounds.{numbered_from, shown_line, one_master, showing, v
 use Rattle.runs.specs.Engine.Runs.{Ended, made_by}
 use Rattle.runs.specs.Engine.Trees.{Stands}
 use Rattle.calls.specs.declared.reply.Reply.{Reply}
-use Rattle.calls.specs.declared.reply.Step.{Step}
-use Rattle.calls.specs.declared.reply.Step.TheVariants.{Goes, Refused}
+use Rattle.calls.specs.declared.refusal.Refusal.{Refusal}
 use Rattle.calls.specs.declared.reach.Reached.{Reached}
-use Rattle.calls.specs.declared.reach.Reached.TheVariants as reached
 use Rattle.calls.specs.Judging.{Judged, master_rule, judged_program, judged_master, judged_view, judged_standings, ran}
 use Rattle.calls.specs.Outcomes.{outcome, settled, out_room}
+use Rattle.calls.specs.Refusals.{number_of, place_of}
+use Rattle.calls.specs.Sweeping.{swept_into}
 
 -- ## Room
 
@@ -40,43 +38,61 @@ put_back_room = 256 + 12 * 256
 
 -- ## Answers
 
-abbrev pub replied : ℕ → ℕ → ℕ → Reply
-replied number place length = record { number = number; place = place; length = length }
+-- of a call that is done, with the length of what it wrote, or refused
+abbrev pub replied : Answer ℕ Refusal → Reply
+replied (Ok length) = record { number = 0; place = 0; length = length }
+replied (Err r) = record { number = number_of r; place = place_of r; length = 0 }
+
+-- a reply's place and length have 16 bits
+abbrev pub Fits : Answer ℕ Refusal → Type 0
+Fits (Ok length) = length < 0x10000
+Fits (Err r) = place_of r < 0x10000
 
 -- the judging's refusal
-abbrev pub Refuses : {A : Type 0} → Judged A → Reply → Type 0
-Refuses judged r = (judged ≡ stops (reply r.number r.place)) × (r.length ≡ 0)
+abbrev pub Refuses : {A : Type 0} → Judged A → Refusal → Type 0
+Refuses judged r = (judged ≡ stops (reply (number_of r) (place_of r))) × (place_of r < 0x10000)
 
 -- the reply and the output buffer that a judging asks for, whatever the work slice holds
 abbrev pub Settles : Judged (List Line) → List ℕ → List ℕ → Reply → Type 0
 Settles judged out out' r = (work : List ℕ) → outcome r.number r.place r.length out' work ≡ settled judged out work
 
+-- the same by the answer that the reply is made of
+abbrev pub SettledBy : Judged (List Line) → List ℕ → List ℕ → Answer ℕ Refusal → Type 0
+SettledBy judged out out' answer = Fits answer × Settles judged out out' (replied answer)
+
+-- the reply and both outputs that the judging of a sweep asks for
+abbrev pub Sweeps : Judged (List Line) → (out numbers out' numbers' : List ℕ) → Reply → Type 0
+Sweeps judged out numbers out' numbers' r = outcome r.number r.place r.length out' numbers' ≡ swept_into judged out numbers
+
+abbrev pub SweptBy : Judged (List Line) → (out numbers out' numbers' : List ℕ) → Answer ℕ Refusal → Type 0
+SweptBy judged out numbers out' numbers' answer = Fits answer × Sweeps judged out numbers out' numbers' (replied answer)
+
 -- ## Files by the starts of their lines
 
--- a sound program: its entries and their ends
-pub record ProgramGoes (program starts ends : List ℕ) (n : ℕ) : Type 0 where
-  pub few : n ≤ 96
-  pub lines : entries program ≡ entries_of program (take n starts)
-  pub ended : Ended (entries program) (take n ends)
+-- a sound program: its entries
+pub record ProgramGoes (program : List ℕ) (E : List Entry) : Type 0 where
+  pub few : length E ≤ 96
+  pub lines : entries program ≡ E
   pub tree : Transformation
-  pub read : read_program (entries program) ≡ gives tree
+  pub read : read_program E ≡ gives tree
   pub judged : judged_program program ≡ gives tree
 
-abbrev pub ProgramJudged : List ℕ → List ℕ → List ℕ → Step → Type 0
-ProgramJudged program starts ends (Goes n) = ProgramGoes program starts ends n
-ProgramJudged program starts ends (Refused r) = Refuses (judged_program program) r
+-- and the ends of their subtrees
+abbrev pub ProgramJudged : List ℕ → List ℕ → Answer (List Entry) Refusal → Type 0
+ProgramJudged program ends (Ok E) = ProgramGoes program E × Ended E (take (length E) ends)
+ProgramJudged program ends (Err r) = Refuses (judged_program program) r
 
 -- a sound master: its lines
-pub record MasterGoes (putting : Bool) (master starts : List ℕ) (n : ℕ) : Type 0 where
-  pub few : n ≤ 128
-  pub lines : nodes master ≡ lines_of master (take n starts)
-  pub rule : master_rule putting (nodes master) ≡ Fine
-  pub form : AllWritable (nodes master)
-  pub judged : judged_master putting master ≡ gives (nodes master)
+pub record MasterGoes (putting : Bool) (master : List ℕ) (ls : List Line) : Type 0 where
+  pub few : length ls ≤ 128
+  pub lines : nodes master ≡ ls
+  pub rule : master_rule putting ls ≡ None
+  pub form : AllWritable ls
+  pub judged : judged_master putting master ≡ gives ls
 
-abbrev pub MasterJudged : Bool → List ℕ → List ℕ → Step → Type 0
-MasterJudged putting master starts (Goes n) = MasterGoes putting master starts n
-MasterJudged putting master starts (Refused r) = Refuses (judged_master putting master) r
+abbrev pub MasterJudged : Bool → List ℕ → Answer (List Line) Refusal → Type 0
+MasterJudged putting master (Ok ls) = MasterGoes putting master ls
+MasterJudged putting master (Err r) = Refuses (judged_master putting master) r
 
 -- ## The run
 
@@ -99,23 +115,24 @@ pub record RunGoes (E : List Entry) (L : List Line) (w : List ℕ) (len : ℕ) :
   pub shows : (X : Transformation) (q : ℕ) → Stands E X 0 q
       → (o : Shown) × (showing (one_master L) X ≡ gives o) × (value_at (made_by E) w 128 len ≡ o.value)
 
-abbrev pub RanBy : List Entry → List Line → List ℕ → Step → Type 0
-RanBy E L w (Goes len) = RunGoes E L w len
-RanBy E L w (Refused r) = (X : Transformation) → read_program E ≡ gives X → Refuses (ran (showing (one_master L) X)) r
+abbrev pub RanBy : List Entry → List Line → List ℕ → Answer ℕ Refusal → Type 0
+RanBy E L w (Ok len) = RunGoes E L w len
+RanBy E L w (Err r) = (X : Transformation) → read_program E ≡ gives X → Refuses (ran (showing (one_master L) X)) r
 
 -- what showing and putting back judge first, and what each does with it
 abbrev pub after_run : Bool → List ℕ → List ℕ → (Transformation → List Line → Shown → Judged (List Line)) → Judged (List Line)
 after_run putting master program rest =
     judged_program program >>= (λ X. judged_master putting master >>= (λ ls. ran (showing (one_master ls) X) >>= (λ o. rest X ls o)))
 
-pub record RunReached (putting : Bool) (master program starts ends places w : List ℕ) (e n len : ℕ) : Type 0 where
-  pub of_program : ProgramGoes program starts ends e
-  pub of_master : MasterGoes putting master places n
-  pub of_run : RunGoes (entries_of program (take (e - 0) starts)) (lines_of master (take (n - 0) places)) w len
+pub record RunReached (putting : Bool) (master program w : List ℕ) (r : Reached) : Type 0 where
+  pub of_program : ProgramGoes program r.inputs.entries
+  pub ended : Ended r.inputs.entries r.inputs.ends.now
+  pub of_master : MasterGoes putting master r.inputs.nodes
+  pub of_run : RunGoes r.inputs.entries r.inputs.nodes w r.shown
 
-abbrev pub ReachedBy : Bool → List ℕ → List ℕ → List ℕ → List ℕ → List ℕ → List ℕ → Reached → Type 0
-ReachedBy putting master program starts ends places w (reached.Shown e n len) = RunReached putting master program starts ends places w e n len
-ReachedBy putting master program starts ends places w (reached.Refused r) =
+abbrev pub ReachedBy : Bool → List ℕ → List ℕ → List ℕ → Answer Reached Refusal → Type 0
+ReachedBy putting master program w (Ok r) = RunReached putting master program w r
+ReachedBy putting master program w (Err r) =
     (rest : Transformation → List Line → Shown → Judged (List Line)) → Refuses (after_run putting master program rest) r
 
 -- ## Writing
@@ -159,15 +176,15 @@ pub record HandingRoom (L es : List Line) (w out : List ℕ) : Type 0 where
 
 -- ## The view
 
-pub record ViewGoes (fresh : List Line) (edited starts : List ℕ) (n : ℕ) : Type 0 where
-  pub few : n ≤ 128
-  pub lines : nodes edited ≡ lines_of edited (take n starts)
-  pub form : AllWritable (nodes edited)
-  pub judged : judged_view fresh edited ≡ gives (nodes edited)
+pub record ViewGoes (fresh : List Line) (edited : List ℕ) (es : List Line) : Type 0 where
+  pub few : length es ≤ 128
+  pub lines : nodes edited ≡ es
+  pub form : AllWritable es
+  pub judged : judged_view fresh edited ≡ gives es
 
-abbrev pub ViewJudged : List Line → List ℕ → List ℕ → Step → Type 0
-ViewJudged fresh edited starts (Goes n) = ViewGoes fresh edited starts n
-ViewJudged fresh edited starts (Refused r) = Refuses (judged_view fresh edited) r
+abbrev pub ViewJudged : List Line → List ℕ → Answer (List Line) Refusal → Type 0
+ViewJudged fresh edited (Ok es) = ViewGoes fresh edited es
+ViewJudged fresh edited (Err r) = Refuses (judged_view fresh edited) r
 
 -- the sums of the lines' texts, one beside each line
 abbrev pub Summed : List Line → List ℕ → Type 0
@@ -198,19 +215,19 @@ pub record Carriable (E : List Entry) (ends : List ℕ) (L es : List Line) (w ou
   pub work_room : put_back_room ≤ length w
   pub short : (ls : List Line) → judged_standings (one_master L) runnable.tree es ≡ gives ls → length (file_of ls) ≤ out_room
 
-abbrev pub CarriedBack : List Entry → List Line → List Line → List ℕ → List ℕ → Reply → Type 0
-CarriedBack E L es out out' r = (X : Transformation) → read_program E ≡ gives X → Settles (judged_standings (one_master L) X es) out out' r
+abbrev pub CarriedBack : List Entry → List Line → List Line → List ℕ → List ℕ → Answer ℕ Refusal → Type 0
+CarriedBack E L es out out' answer = (X : Transformation) → read_program E ≡ gives X → SettledBy (judged_standings (one_master L) X es) out out' answer
 
 pub record Comparable (E : List Entry) (ends : List ℕ) (L : List Line) (len : ℕ) (w out : List ℕ) : Type 0 where
   pub runnable : Runnable E ends L
   pub goes : RunGoes E L w len
   pub shallow : within_bounds (value_at (made_by E) w 128 len) ≡ true
   pub form : AllWritable L
-  pub bounds : master_bounds L ≡ Fine
+  pub bounds : master_bounds L ≡ None
   pub room : out_room ≤ length out
   pub work_room : put_back_room ≤ length w
 
-abbrev pub ComparedBack : List Entry → List Line → List ℕ → List ℕ → List ℕ → Reply → Type 0
-ComparedBack E L edited out out' r =
+abbrev pub ComparedBack : List Entry → List Line → List ℕ → List ℕ → List ℕ → Answer ℕ Refusal → Type 0
+ComparedBack E L edited out out' answer =
     (X : Transformation) → read_program E ≡ gives X → (o : Shown) → showing (one_master L) X ≡ gives o
-    → Settles (judged_view (view (one_master L) o.value) edited >>= (λ es. judged_standings (one_master L) X es)) out out' r
+    → SettledBy (judged_view (view (one_master L) o.value) edited >>= (λ es. judged_standings (one_master L) X es)) out out' answer

@@ -1,10 +1,8 @@
 -- Reading one byte more than the longest legal file is enough: the outcome on the bytes read is the outcome on the whole file.
-use Rattle.std.specs.Prelude.{◌≡◌, refl, Bool, true, false, List, ℕ, ◌<◌, take}
+use Rattle.std.specs.Prelude.{◌≡◌, refl, Bool, true, false, List, ℕ, ◌<◌, take, Result, Ok, Err}
 use Rattle.std.proofs.Common.{ap, ◌∙◌, arith, take_all}
 use Rattle.lines.specs.declared.scan.File.{File}
 use Rattle.lines.specs.declared.scan.File.TheVariants.{Program, Master, View}
-use Rattle.lines.specs.declared.scan.Scan.{Scan}
-use Rattle.lines.specs.declared.scan.Scan.TheVariants.{Lines, Wrong}
 use Rattle.lines.specs.Files.{limit_of, widest_of, longest_of, scan}
 use Rattle.lines.specs.Nodes.{Line}
 use Rattle.lines.proofs.Theorems.Widths.{scanned_short}
@@ -16,13 +14,13 @@ use Rattle.calls.specs.Outcomes.{called, show_call, put_back_call}
 
 -- a judging that refuses a file where its scan does is the same on what was read of it
 module _ {A : Type 0} (file : File) (judged : List ℕ → Judged A)
-    (refuses : (s t : List ℕ) (line : ℕ) → scan file s ≡ Wrong line → scan file t ≡ Wrong line → judged s ≡ judged t) (s : List ℕ) (k : ℕ) (far : longest_of file < k) where
+    (refuses : (s t : List ℕ) (line : ℕ) → scan file s ≡ Err line → scan file t ≡ Err line → judged s ≡ judged t) (s : List ℕ) (k : ℕ) (far : longest_of file < k) where
   enough_read : judged (take k s) ≡ judged s
   enough_read = go (scan file s) refl
     where
-      go : (r : Scan) → scan file s ≡ r → judged (take k s) ≡ judged s
-      go (Lines n) e = ap judged (take_all k s (omega (arith, scanned_short file s n e)))
-      go (Wrong line) e = refuses (take k s) s line (cut_long file s k far ∙ e) e
+      go : (r : Result ℕ ℕ) → scan file s ≡ r → judged (take k s) ≡ judged s
+      go (Ok n) e = ap judged (take_all k s (omega (arith, scanned_short file s n e)))
+      go (Err line) e = refuses (take k s) s line (cut_long file s k far ∙ e) e
 
 program_read : (program : List ℕ) (k : ℕ) → 6624 < k → judged_program (take k program) ≡ judged_program program
 unfolding judged_program formed longest_of limit_of widest_of

@@ -1,9 +1,8 @@
 -- A view differs from the fresh one only by edits exactly if it passes 9 and 10.
-use Rattle.std.specs.Prelude.{ℕ, zero, suc, ◌≡◌, Bool, true, false, cond, ◌&&◌, ◌||◌, List, [], ◌∷◌, eqb, length, get_or}
+use Rattle.std.specs.Prelude.{ℕ, zero, suc, ◌≡◌, Bool, true, false, cond, ◌&&◌, ◌||◌, List, [], ◌∷◌, eqb, length, get_or, None, Some}
 use Rattle.std.proofs.Math.Path.{refl, sym}
 use Rattle.std.proofs.Common.{ap, ◌∙◌, arith, eqb-true, eq-eqb, ne_eqb}
 use Rattle.std.proofs.lemmas.Bool.{eqb-false, not-false}
-use Rattle.lines.specs.declared.verdict.Verdict.TheVariants.{Fine, Fault}
 use Rattle.lines.specs.Nodes.{Line, untouched_mark, changed_mark, program_number, is_marked, line_at}
 use Rattle.lines.specs.Texts.{same_text}
 use Rattle.lines.specs.Verdicts.{first_from}
@@ -14,38 +13,38 @@ use Rattle.calls.specs.Demands.{FromProgram, OnlyEdits}
 
 -- ## No fault from a line on: none at any place, what stands for a missing one counted
 
-none_faulty : {A : Type 0} (fault : A → Bool) (k : ℕ) (xs : List A) (d : A) → fault d ≡ false → first_from fault k xs ≡ Fine → (i : ℕ) → fault (get_or xs i d) ≡ false
+none_faulty : {A : Type 0} (fault : A → Bool) (k : ℕ) (xs : List A) (d : A) → fault d ≡ false → first_from fault k xs ≡ None → (i : ℕ) → fault (get_or xs i d) ≡ false
 unfolding first_from
 none_faulty fault k [] d e h i = e
 none_faulty {A = A} fault k (x ∷ xs) d e h i = go (fault x) refl h (λ q. none_faulty fault (suc k) xs d e q) i
   where
-    go : (b : Bool) → fault x ≡ b → cond b (Fault k) (first_from fault (suc k) xs) ≡ Fine
-        → (first_from fault (suc k) xs ≡ Fine → (i : ℕ) → fault (get_or xs i d) ≡ false) → (i : ℕ) → fault (get_or (x ∷ xs) i d) ≡ false
+    go : (b : Bool) → fault x ≡ b → cond b (Some k) (first_from fault (suc k) xs) ≡ None
+        → (first_from fault (suc k) xs ≡ None → (i : ℕ) → fault (get_or xs i d) ≡ false) → (i : ℕ) → fault (get_or (x ∷ xs) i d) ≡ false
     go true f q ih i = let z : ◌≡◌ {A = ℕ} 0 1 = cc in absurd (omega arith)
     go false f q ih zero = f
     go false f q ih (suc i) = ih q i
 
-faulty_none : {A : Type 0} (fault : A → Bool) (k : ℕ) (xs : List A) (d : A) → ((i : ℕ) → fault (get_or xs i d) ≡ false) → first_from fault k xs ≡ Fine
+faulty_none : {A : Type 0} (fault : A → Bool) (k : ℕ) (xs : List A) (d : A) → ((i : ℕ) → fault (get_or xs i d) ≡ false) → first_from fault k xs ≡ None
 unfolding first_from
 faulty_none fault k [] d f = refl
 faulty_none fault k (x ∷ xs) d f = rw (f 0) (faulty_none fault (suc k) xs d (λ i. f (suc i)))
 
 -- ## 9
 
-same_from : (k : ℕ) (es fs : List Line) → difference_from k es fs ≡ Fine → (length es ≡ length fs) × ((i : ℕ) → same_line (line_at es i) (line_at fs i) ≡ true)
+same_from : (k : ℕ) (es fs : List Line) → difference_from k es fs ≡ None → (length es ≡ length fs) × ((i : ℕ) → same_line (line_at es i) (line_at fs i) ≡ true)
 unfolding difference_from same_line same_head same_text
 same_from k [] [] h = (refl, λ i. refl)
 same_from k [] (f ∷ fs) h = let z : ◌≡◌ {A = ℕ} 0 1 = cc in absurd (omega arith)
 same_from k (e ∷ es) [] h = let z : ◌≡◌ {A = ℕ} 0 1 = cc in absurd (omega arith)
 same_from k (e ∷ es) (f ∷ fs) h = go (same_line e f) refl h (λ q. same_from (suc k) es fs q)
   where
-    go : (b : Bool) → same_line e f ≡ b → cond b (difference_from (suc k) es fs) (Fault k) ≡ Fine
-        → (difference_from (suc k) es fs ≡ Fine → (length es ≡ length fs) × ((i : ℕ) → same_line (line_at es i) (line_at fs i) ≡ true))
+    go : (b : Bool) → same_line e f ≡ b → cond b (difference_from (suc k) es fs) (Some k) ≡ None
+        → (difference_from (suc k) es fs ≡ None → (length es ≡ length fs) × ((i : ℕ) → same_line (line_at es i) (line_at fs i) ≡ true))
         → (suc (length es) ≡ suc (length fs)) × ((i : ℕ) → same_line (line_at (e ∷ es) i) (line_at (f ∷ fs) i) ≡ true)
     go true s q ih = let r = ih q in (ap suc r.0, λ i. elim i as (λ n. same_line (line_at (e ∷ es) n) (line_at (f ∷ fs) n) ≡ true) [ zero ↦ s | suc j ↦ r.1 j ])
     go false s q ih = let z : ◌≡◌ {A = ℕ} 0 1 = cc in absurd (omega arith)
 
-from_same : (k : ℕ) (es fs : List Line) → length es ≡ length fs → ((i : ℕ) → same_line (line_at es i) (line_at fs i) ≡ true) → difference_from k es fs ≡ Fine
+from_same : (k : ℕ) (es fs : List Line) → length es ≡ length fs → ((i : ℕ) → same_line (line_at es i) (line_at fs i) ≡ true) → difference_from k es fs ≡ None
 unfolding difference_from
 from_same k [] [] c s = refl
 from_same k [] (f ∷ fs) c s = absurd (omega arith)
@@ -106,7 +105,7 @@ mark_free l f = go (eqb l.number program_number) refl
 -- ## Both, beside a fresh view whose program lines are unmarked
 
 module _ (edited fresh : List Line) (plain : (i : ℕ) → FromProgram (line_at fresh i) → (line_at fresh i).mark ≡ untouched_mark) where
-  pub edits_pass : OnlyEdits edited fresh → (first_difference edited fresh ≡ Fine) × (program_mark edited ≡ Fine)
+  pub edits_pass : OnlyEdits edited fresh → (first_difference edited fresh ≡ None) × (program_mark edited ≡ None)
   unfolding first_difference program_mark
   edits_pass o = (
     from_same 0 edited fresh o.count (λ i.
@@ -114,7 +113,7 @@ module _ (edited fresh : List Line) (plain : (i : ℕ) → FromProgram (line_at 
     faulty_none program_marked 0 edited _ (λ i. mark_free (line_at edited i) (λ n. let m = sym (o.number i) ∙ n in o.mark i m ∙ plain i m)),
   )
 
-  pub pass_edits : first_difference edited fresh ≡ Fine → program_mark edited ≡ Fine → OnlyEdits edited fresh
+  pub pass_edits : first_difference edited fresh ≡ None → program_mark edited ≡ None → OnlyEdits edited fresh
   unfolding first_difference program_mark program_marked is_marked
   pass_edits d p =
       let s = same_from 0 edited fresh d in

@@ -1,8 +1,7 @@
 -- The mark that counts, and the view with these marks: what passed 8 to 10 passes again.
-use Rattle.std.specs.Prelude.{◌≡◌, refl, Bool, true, false, cond, ◌&&◌, ◌||◌, List, [], ◌∷◌, ℕ, zero, suc, ◌<◌, eqb, length}
+use Rattle.std.specs.Prelude.{◌≡◌, refl, Bool, true, false, cond, ◌&&◌, ◌||◌, List, [], ◌∷◌, ℕ, zero, suc, ◌<◌, eqb, length, None, Some}
 use Rattle.std.proofs.Common.{sym, ap, ◌∙◌, not-suc-le-zero, arith, eqb-true, eq-eqb}
 use Rattle.std.proofs.Math.Bool.{not, and-false}
-use Rattle.lines.specs.declared.verdict.Verdict.TheVariants.{Fine, Fault}
 use Rattle.lines.specs.Nodes.{Line, untouched_mark, changed_mark, program_number, is_marked, kind_rule, line_at}
 use Rattle.lines.specs.Texts.{same_text}
 use Rattle.lines.specs.Verdicts.{first_from}
@@ -94,27 +93,27 @@ counted_writable (f ∷ fs) [] g = g
 counted_writable (f ∷ fs) (v ∷ vs) g = (fields_writable (counted_line f v) (counted_fields f v (writable_fields v g.0)), counted_writable fs vs g.1)
 
 -- 9
-pub counted_fresh : (k : ℕ) (fs vs : List Line) → difference_from k vs fs ≡ Fine → difference_from k (counted_lines fs vs) fs ≡ Fine
+pub counted_fresh : (k : ℕ) (fs vs : List Line) → difference_from k vs fs ≡ None → difference_from k (counted_lines fs vs) fs ≡ None
 unfolding counted_lines difference_from
 counted_fresh k [] vs h = h
 counted_fresh k (f ∷ fs) [] h = h
 counted_fresh k (f ∷ fs) (v ∷ vs) h = go (same_line v f) refl h (counted_fresh (suc k) fs vs)
   where
-    go : (b : Bool) → same_line v f ≡ b → cond b (difference_from (suc k) vs fs) (Fault k) ≡ Fine
-        → (difference_from (suc k) vs fs ≡ Fine → difference_from (suc k) (counted_lines fs vs) fs ≡ Fine)
-        → cond (same_line (counted_line f v) f) (difference_from (suc k) (counted_lines fs vs) fs) (Fault k) ≡ Fine
+    go : (b : Bool) → same_line v f ≡ b → cond b (difference_from (suc k) vs fs) (Some k) ≡ None
+        → (difference_from (suc k) vs fs ≡ None → difference_from (suc k) (counted_lines fs vs) fs ≡ None)
+        → cond (same_line (counted_line f v) f) (difference_from (suc k) (counted_lines fs vs) fs) (Some k) ≡ None
     go true s q ih = rw (counted_same f v s) (ih q)
     go false s q ih = cc
 
 -- 10
-pub counted_unmarked : (k : ℕ) (fs vs : List Line) → first_from program_marked k vs ≡ Fine → first_from program_marked k (counted_lines fs vs) ≡ Fine
+pub counted_unmarked : (k : ℕ) (fs vs : List Line) → first_from program_marked k vs ≡ None → first_from program_marked k (counted_lines fs vs) ≡ None
 unfolding counted_lines first_from
 counted_unmarked k [] vs h = h
 counted_unmarked k (f ∷ fs) [] h = h
 counted_unmarked k (f ∷ fs) (v ∷ vs) h = go (program_marked v) refl h (counted_unmarked (suc k) fs vs)
   where
-    go : (b : Bool) → program_marked v ≡ b → cond b (Fault k) (first_from program_marked (suc k) vs) ≡ Fine
-        → (first_from program_marked (suc k) vs ≡ Fine → first_from program_marked (suc k) (counted_lines fs vs) ≡ Fine)
-        → cond (program_marked (counted_line f v)) (Fault k) (first_from program_marked (suc k) (counted_lines fs vs)) ≡ Fine
+    go : (b : Bool) → program_marked v ≡ b → cond b (Some k) (first_from program_marked (suc k) vs) ≡ None
+        → (first_from program_marked (suc k) vs ≡ None → first_from program_marked (suc k) (counted_lines fs vs) ≡ None)
+        → cond (program_marked (counted_line f v)) (Some k) (first_from program_marked (suc k) (counted_lines fs vs)) ≡ None
     go true s q ih = cc
     go false s q ih = rw (counted_free f v s) (ih q)

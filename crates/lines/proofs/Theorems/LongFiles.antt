@@ -1,7 +1,7 @@
 -- A file cut behind the longest legal one, by one byte or more, scans as the whole file does: a program need read no further.
 use Rattle.std.proofs.Math.Path.{◌≡◌, refl, sym, ap}
 use Rattle.std.proofs.Common.{◌∙◌, mul-suc, mul_comm, not-suc-le-zero, le_of_suc-le-suc, arith, length-take}
-use Rattle.std.specs.Prelude.{Bool, cond, ◌&&◌, eqb, ltb, drop}
+use Rattle.std.specs.Prelude.{Bool, cond, ◌&&◌, eqb, ltb, drop, Err}
 use Rattle.std.proofs.Math.Bool.{true, false}
 use mathlib.Core.List.{List, [], ◌∷◌}
 use Prim.Native.Nat.{ℕ, zero, suc, ◌+◌, ◌*◌, ◌-◌, ◌≤◌, ◌<◌}
@@ -10,7 +10,6 @@ use Rattle.std.proofs.Math.ListN.{length, take}
 use lib.Seq.{take-nil, take-take, length-take-le}
 use borrow.Author.Tests.{ltb-true, leb-true, leb-false}
 use Rattle.lines.specs.declared.scan.File.{File}
-use Rattle.lines.specs.declared.scan.Scan.TheVariants.{Wrong}
 use Rattle.lines.specs.Lines.{cut}
 use Rattle.lines.specs.Files.{form_of, limit_of, widest_of, longest_of, scan_from, scan}
 use Rattle.lines.specs.Theorems.Cutting.{cut_first, first_some, first_within, joined, joined_cut}
@@ -71,11 +70,11 @@ module _ (form : List ℕ → Bool) (limit width : ℕ) (wide : (c : List ℕ) �
 
   -- a first line that is refused is refused where the file was cut
   refused : (n k : ℕ) (s : List ℕ) → 0 < length s → width * (limit - n) < k
-      → (ltb n limit && form (take (line_length s) s)) ≡ false → scan_from form limit n (cut (take k s)) ≡ Wrong n
+      → (ltb n limit && form (take (line_length s) s)) ≡ false → scan_from form limit n (cut (take k s)) ≡ Err n
   unfolding scan_from
   refused n k s some far bad = go (leb (line_length s) k) refl
     where
-      go : (t : Bool) → leb (line_length s) k ≡ t → scan_from form limit n (cut (take k s)) ≡ Wrong n
+      go : (t : Bool) → leb (line_length s) k ≡ t → scan_from form limit n (cut (take k s)) ≡ Err n
       go true e = rw (cut_kept k s some (leb-true (line_length s) k e), bad)
       go false e =
           let h : k < line_length s = leb-false (line_length s) k e in
@@ -102,7 +101,7 @@ module _ (form : List ℕ → Bool) (limit width : ℕ) (wide : (c : List ℕ) �
 
       go : take l (x ∷ s) ≡ c → cut (drop l (x ∷ s)) ≡ cs → (t u : Bool) → ltb n limit ≡ t → form c ≡ u
           → ((m : ℕ) → width * (limit - suc n) < m → scan_from form limit (suc n) (cut (take m (drop l (x ∷ s)))) ≡ scan_from form limit (suc n) cs)
-          → scan_from form limit n (cut (take k (x ∷ s))) ≡ cond (ltb n limit && form c) (scan_from form limit (suc n) cs) (Wrong n)
+          → scan_from form limit n (cut (take k (x ∷ s))) ≡ cond (ltb n limit && form c) (scan_from form limit (suc n) cs) (Err n)
       go first rest true true q f ih =
           let long : length (take l (x ∷ s)) ≡ l = length-take-le l (x ∷ s) (first_within (x ∷ s)) in
           let short : l ≤ width = omega (arith, wide c f, ap length first) in

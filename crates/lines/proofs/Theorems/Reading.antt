@@ -1,7 +1,7 @@
 -- What is read at the place where a line begins is what the line says: nodes and entries alike.
 use Rattle.std.proofs.Math.Path.{◌≡◌, refl, ap, ap₂}
 use Rattle.std.proofs.Common.{sym, ◌∙◌, subst, not-suc-le-zero, le_of_suc-le-suc, length-drop, leb-true, eqb-true}
-use Rattle.std.specs.Prelude.{Bool, ◌&&◌, ℕ, zero, suc, ◌+◌, ◌*◌, ◌-◌, ◌≤◌, ◌<◌, eqb, leb, ltb, get_or, drop}
+use Rattle.std.specs.Prelude.{Bool, ◌&&◌, ℕ, zero, suc, ◌+◌, ◌*◌, ◌-◌, ◌≤◌, ◌<◌, eqb, leb, ltb, get_or, drop, Option, None, Some, Result, Ok, Err}
 use Rattle.std.proofs.Math.Bool.{true, false, cond}
 use mathlib.Core.List.{List, [], ◌∷◌, map}
 use native.Mathlib.Omega.{arith}
@@ -9,14 +9,12 @@ use Rattle.std.proofs.Math.ListN.{length, take}
 use lib.Seq.{length-take-le, take-append-le, take-take, take_all, get_or-drop, ext_get_or}
 use Rattle.lines.specs.declared.scan.File.{File}
 use Rattle.lines.specs.declared.scan.File.TheVariants.{Program, Master, View}
-use Rattle.lines.specs.declared.scan.Scan.{Scan}
-use Rattle.lines.specs.declared.scan.Scan.TheVariants.{Lines, Wrong}
 use Rattle.lines.specs.declared.table.Shape.{Shape}
-use Rattle.lines.specs.declared.table.Shape.TheVariants.{Nothing, Text, Tag, Slot, Missing}
+use Rattle.lines.specs.declared.table.Shape.TheVariants.{Nothing, Text, Tag, Slot}
 use Rattle.lines.specs.Hex.{hex_value, decode, hex_digit, encode}
 use Rattle.lines.specs.Lines.{cut, pairs_then_end, is_line}
 use Rattle.lines.specs.Nodes.{node_form, node_line, node_of, nodes}
-use Rattle.lines.specs.Entries.{text_form, operand_form, entry_form, entry_line, entry_of, entries, row_of}
+use Rattle.lines.specs.Entries.{text_form, operand_form, entry_form, entry_line, entry_of, entries, operand_shape}
 use Rattle.lines.specs.Files.{form_of, limit_of, scan_from, scan}
 use Rattle.lines.specs.Theorems.Bools.{never, and_left, and_right}
 use Rattle.lines.proofs.Theorems.Pairs.{high_digit, low_digit, get_d_decode, pair_part, line_length_is}
@@ -34,7 +32,7 @@ get_d_bytes s p zero j h = absurd (not-suc-le-zero h)
 get_d_bytes s p (suc k) zero h = ap (pair_at s) (omega arith)
 get_d_bytes s p (suc k) (suc j) h = get_d_bytes s (p + 2) k j (le_of_suc-le-suc h) ∙ ap (pair_at s) (omega arith)
 
-length_text : (s : List ℕ) (p : ℕ) → length (text_at s p) ≡ pair_at s p
+pub length_text : (s : List ℕ) (p : ℕ) → length (text_at s p) ≡ pair_at s p
 unfolding text_at
 length_text s p = length_bytes s (p + 2) (pair_at s p)
 
@@ -121,7 +119,7 @@ list_more [] e = absurd (omega arith)
 list_more (x ∷ b) e = refl
 
 -- an operand that has its shape's form is read as it is
-operand_here : (shape : Shape) (s : List ℕ) (p m : ℕ) → p + m ≤ length s → pairs_then_end (take m (drop p s)) ≡ true
+operand_here : (shape : Option Shape) (s : List ℕ) (p m : ℕ) → p + m ≤ length s → pairs_then_end (take m (drop p s)) ≡ true
     → 1 ≤ length (decode (take m (drop p s))) → operand_form shape (drop 1 (decode (take m (drop p s)))) ≡ true
     → operand_at shape s (p + 2) ≡ drop 1 (decode (take m (drop p s)))
 unfolding operand_form operand_at text_form
@@ -142,15 +140,15 @@ operand_here shape s p m fits pairs some form = go shape form
         let t : text_at s (p + 2) ≡ drop 1 (drop 1 b) = text_here s p m fits pairs 1 (omega (arith, less)) (omega (arith, less)) ∙ sym (lib.Seq.drop-drop 1 1 b) in
         ap₂ (λ (y : ℕ) (r : List ℕ). y ∷ r) x t ∙ list_more (drop 1 b) one
 
-    go : (shape : Shape) → operand_form shape (drop 1 b) ≡ true → operand_at shape s (p + 2) ≡ drop 1 b
-    go Nothing e = list_zero (drop 1 b) (eqb-true _ 0 e)
-    go Text e = text e
-    go Tag e = text (and_left (text_form (drop 1 b)) _ e)
-    go Slot e =
+    go : (shape : Option Shape) → operand_form shape (drop 1 b) ≡ true → operand_at shape s (p + 2) ≡ drop 1 b
+    go (Some Nothing) e = list_zero (drop 1 b) (eqb-true _ 0 e)
+    go (Some Text) e = text e
+    go (Some Tag) e = text (and_left (text_form (drop 1 b)) _ e)
+    go (Some Slot) e =
         let one = eqb-true (length (drop 1 b)) 1 e in
         let g : get_or (drop 1 b) 0 0 ≡ get_or b 1 0 = get_or-drop 1 b 0 0 in
         ap (λ (y : ℕ). y ∷ []) (byte_here s p m fits pairs 1 (omega (arith, less)) ∙ sym g) ∙ list_one (drop 1 b) one
-    go Missing e = never e
+    go None e = never e
 
 entry_here : (s : List ℕ) (p m : ℕ) → p + m ≤ length s → entry_line (take m (drop p s)) ≡ true → entry_at s p ≡ entry_of (decode (take m (drop p s)))
 unfolding entry_line is_line entry_form entry_at
@@ -160,8 +158,8 @@ entry_here s p m fits good =
     let pairs = and_left (pairs_then_end c) _ (and_left (is_line c) (entry_form b) good) in
     let some = leb-true 1 (length b) (and_right (pairs_then_end c) _ (and_left (is_line c) (entry_form b) good)) in
     let b0 : pair_at s p ≡ get_or b 0 0 = ap (pair_at s) (let z : p ≡ p + 2 * 0 = omega arith in z) ∙ byte_here s p m fits pairs 0 (omega arith) in
-    let form : operand_form (row_of (get_or b 0 0)).0 (drop 1 b) ≡ true = and_right (is_line c) (entry_form b) good in
-    let o : operand_at (row_of (pair_at s p)).0 s (p + 2) ≡ drop 1 b = rw b0 (operand_here (row_of (get_or b 0 0)).0 s p m fits pairs some form) in
+    let form : operand_form (operand_shape (get_or b 0 0)) (drop 1 b) ≡ true = and_right (is_line c) (entry_form b) good in
+    let o : operand_at (operand_shape (pair_at s p)) s (p + 2) ≡ drop 1 b = rw b0 (operand_here (operand_shape (get_or b 0 0)) s p m fits pairs some form) in
     λ i. record { operation = b0 i; operand = o i }
 
 -- ## A file
@@ -169,7 +167,7 @@ entry_here s p m fits good =
 -- whatever lines say, read at the places where they begin, if each line has the form
 module _ {A : Type 0} (form : List ℕ → Bool) (limit : ℕ) (said : List ℕ → A) (read : List ℕ → ℕ → A)
     (here : (s : List ℕ) (p m : ℕ) → p + m ≤ length s → form (take m (drop p s)) ≡ true → read s p ≡ said (decode (take m (drop p s)))) where
-  reads_from : (s : List ℕ) (cs : List (List ℕ)) (at n k : ℕ) → cut (drop at s) ≡ cs → scan_from form limit n cs ≡ Lines k
+  reads_from : (s : List ℕ) (cs : List (List ℕ)) (at n k : ℕ) → cut (drop at s) ≡ cs → scan_from form limit n cs ≡ Ok k
       → map (read s) (starts_from at cs) ≡ map (λ c. said (decode c)) cs
   unfolding scan_from starts_from
   reads_from s [] at n k e q = refl
@@ -183,9 +181,9 @@ module _ {A : Type 0} (form : List ℕ → Bool) (limit : ℕ) (said : List ℕ 
       go (ltb n limit && form c) refl q (end - at) first (omega (arith, end_within s at inside end refl, end_beyond s at inside end refl))
       (λ r. rw next (reads_from s cs end (suc n) k rest r))
     where
-      go : (t : Bool) → (ltb n limit && form c) ≡ t → cond t (scan_from form limit (suc n) cs) (Wrong n) ≡ Lines k
+      go : (t : Bool) → (ltb n limit && form c) ≡ t → cond t (scan_from form limit (suc n) cs) (Err n) ≡ Ok k
           → (m : ℕ) → take m (drop at s) ≡ c → at + m ≤ length s
-          → (scan_from form limit (suc n) cs ≡ Lines k → map (read s) (starts_from (at + length c) cs) ≡ map (λ c. said (decode c)) cs)
+          → (scan_from form limit (suc n) cs ≡ Ok k → map (read s) (starts_from (at + length c) cs) ≡ map (λ c. said (decode c)) cs)
           → read s at ∷ map (read s) (starts_from (at + length c) cs) ≡ said (decode c) ∷ map (λ c. said (decode c)) cs
       go true f r m first fits ih =
           ap₂ (λ (x : A) (l : List A). x ∷ l)
@@ -195,34 +193,34 @@ module _ {A : Type 0} (form : List ℕ → Bool) (limit : ℕ) (said : List ℕ 
 
 -- ## The theorems
 
-pub reads_master : (s : List ℕ) (n : ℕ) → scan Master s ≡ Lines n → lines_of s (starts s) ≡ nodes s
+pub reads_master : (s : List ℕ) (n : ℕ) → scan Master s ≡ Ok n → lines_of s (starts s) ≡ nodes s
 unfolding scan form_of starts nodes
 reads_master s n e = reads_from node_line (limit_of Master) node_of node_at node_here s (cut s) 0 0 n refl e
 
-pub reads_view : (s : List ℕ) (n : ℕ) → scan View s ≡ Lines n → lines_of s (starts s) ≡ nodes s
+pub reads_view : (s : List ℕ) (n : ℕ) → scan View s ≡ Ok n → lines_of s (starts s) ≡ nodes s
 unfolding scan form_of starts nodes
 reads_view s n e = reads_from node_line (limit_of View) node_of node_at node_here s (cut s) 0 0 n refl e
 
-pub reads_program : (s : List ℕ) (n : ℕ) → scan Program s ≡ Lines n → entries_of s (starts s) ≡ entries s
+pub reads_program : (s : List ℕ) (n : ℕ) → scan Program s ≡ Ok n → entries_of s (starts s) ≡ entries s
 unfolding scan form_of starts entries
 reads_program s n e = reads_from entry_line (limit_of Program) entry_of entry_at entry_here s (cut s) 0 0 n refl e
 
 -- a whole scan counts all lines
-scan_counts : (form : List ℕ → Bool) (limit k : ℕ) (cs : List (List ℕ)) (n : ℕ) → scan_from form limit k cs ≡ Lines n → n ≡ k + length cs
+scan_counts : (form : List ℕ → Bool) (limit k : ℕ) (cs : List (List ℕ)) (n : ℕ) → scan_from form limit k cs ≡ Ok n → n ≡ k + length cs
 unfolding scan_from
 scan_counts form limit k [] n e = let z : k ≡ n = cc in omega arith
 scan_counts form limit k (c ∷ cs) n e = go (ltb k limit && form c) e (λ h. scan_counts form limit (suc k) cs n h)
   where
-    go : (t : Bool) → cond t (scan_from form limit (suc k) cs) (Wrong k) ≡ Lines n → (scan_from form limit (suc k) cs ≡ Lines n → n ≡ suc k + length cs) → n ≡ k + suc (length cs)
+    go : (t : Bool) → cond t (scan_from form limit (suc k) cs) (Err k) ≡ Ok n → (scan_from form limit (suc k) cs ≡ Ok n → n ≡ suc k + length cs) → n ≡ k + suc (length cs)
     go true h ih = let z = ih h in omega arith
     go false h ih = absurd (let z : ◌≡◌ {A = ℕ} 0 1 = cc in omega arith)
 
-pub scan_count : (file : File) (s : List ℕ) (n : ℕ) → scan file s ≡ Lines n → n ≡ length (cut s)
+pub scan_count : (file : File) (s : List ℕ) (n : ℕ) → scan file s ≡ Ok n → n ≡ length (cut s)
 unfolding scan
 scan_count file s n e = let z = scan_counts (form_of file) (limit_of file) 0 (cut s) n e in omega arith
 
 -- what the scanner noted are the places where the lines begin
-pub noted_starts : (file : File) (s before noted : List ℕ) (n : ℕ) → Scanned file s before noted (Lines n) → take n noted ≡ starts s
+pub noted_starts : (file : File) (s before noted : List ℕ) (n : ℕ) → Scanned file s before noted (Ok n) → take n noted ≡ starts s
 unfolding starts
 noted_starts file s before noted n r =
     let c = scan_count file s n (sym r.answer) in
@@ -231,12 +229,12 @@ noted_starts file s before noted n r =
     ∙ (take-take n n (starts s) (omega arith) ∙ take_all n (starts s) (omega arith)))
 
 -- a scan that took all lines
-pub scanned_whole : {file : File} {s before noted : List ℕ} {r : Scan} → Scanned file s before noted r → (n : ℕ) → r ≡ Lines n → Scanned file s before noted (Lines n)
+pub scanned_whole : {file : File} {s before noted : List ℕ} {r : Result ℕ ℕ} → Scanned file s before noted r → (n : ℕ) → r ≡ Ok n → Scanned file s before noted (Ok n)
 scanned_whole x n e = rw e at x
 
 -- what the lines say, by the places that were noted
 pub said_lines : {A : Type 0} {file : File} (said : List ℕ → List A) (read : List ℕ → ℕ → A)
-    → ((s : List ℕ) (n : ℕ) → scan file s ≡ Lines n → map (read s) (starts s) ≡ said s)
-    → {s before noted : List ℕ} {n : ℕ} → Scanned file s before noted (Lines n) → said s ≡ map (read s) (take n noted)
+    → ((s : List ℕ) (n : ℕ) → scan file s ≡ Ok n → map (read s) (starts s) ≡ said s)
+    → {s before noted : List ℕ} {n : ℕ} → Scanned file s before noted (Ok n) → said s ≡ map (read s) (take n noted)
 said_lines {file = file} said read reads {s} {before} {noted} {n} x =
     sym (reads s n (sym x.answer)) ∙ ap (map (read s)) (sym (noted_starts file s before noted n x))

@@ -1,13 +1,12 @@
 -- What is written reads back as what was written, and a good file written again is the same bytes.
 use mathlib.Core.Path.{◌≡◌, refl, sym, ◌∙◌, ap, ap₂, subst}
-use Rattle.std.specs.Prelude.{Bool, true, false, cond, ◌&&◌, ℕ, suc, ◌+◌, ◌*◌, ◌/◌, ◌%◌, ◌≤◌, ◌<◌, eqb, leb, ltb, get_or}
+use Rattle.std.specs.Prelude.{Bool, true, false, cond, ◌&&◌, ℕ, suc, ◌+◌, ◌*◌, ◌/◌, ◌%◌, ◌≤◌, ◌<◌, eqb, leb, ltb, get_or, Ok, Err}
 use mathlib.Core.List.{List, [], ◌∷◌, ◌++◌, map}
 use native.Mathlib.Omega.{arith}
 use Rattle.std.proofs.Math.ListN.{length}
 use Rattle.std.proofs.Common.{length-append, lt-ltb, le-leb, leb-true, eqb-true}
 use Rattle.lines.specs.declared.scan.File.{File}
 use Rattle.lines.specs.declared.scan.File.TheVariants.{Master, View}
-use Rattle.lines.specs.declared.scan.Scan.TheVariants.{Lines, Wrong}
 use Rattle.lines.specs.Hex.{hex_digit, decode, encode}
 use Rattle.lines.specs.Lines.{push, cut, pairs_then_end, is_line}
 use Rattle.lines.specs.Nodes.{Line, node_form, node_line, node_of, nodes}
@@ -95,12 +94,12 @@ unfolding file_of lines_bytes line_bytes cut
 cut_file [] g = refl
 cut_file (n ∷ ns) g = cut_encode (bytes_of n) (file_of ns) g.0.bytes ∙ ap (λ (l : List (List ℕ)). (encode (bytes_of n) ++ (0x0A ∷ [])) ∷ l) (cut_file ns g.1)
 
-scan_lines_of : (limit k : ℕ) (ns : List Line) → AllWritable ns → k + length ns ≤ limit → scan_from node_line limit k (lines_bytes ns) ≡ Lines (k + length ns)
+scan_lines_of : (limit k : ℕ) (ns : List Line) → AllWritable ns → k + length ns ≤ limit → scan_from node_line limit k (lines_bytes ns) ≡ Ok (k + length ns)
 unfolding scan_from lines_bytes
-scan_lines_of limit k [] g h = ap Lines (let z : k ≡ k + 0 = omega arith in z)
+scan_lines_of limit k [] g h = ap Ok (let z : k ≡ k + 0 = omega arith in z)
 scan_lines_of limit k (n ∷ ns) g h =
     rw (lt-ltb k limit (omega arith), written_line n g.0)
-    (scan_lines_of limit (suc k) ns g.1 (omega arith) ∙ ap Lines (let z : suc k + length ns ≡ k + suc (length ns) = omega arith in z))
+    (scan_lines_of limit (suc k) ns g.1 (omega arith) ∙ ap Ok (let z : suc k + length ns ≡ k + suc (length ns) = omega arith in z))
 
 nodes_lines_of : (ns : List Line) → AllWritable ns → map (λ c. node_of (decode c)) (lines_bytes ns) ≡ ns
 unfolding lines_bytes
@@ -109,7 +108,7 @@ nodes_lines_of (n ∷ ns) g = ap₂ (λ (a : Line) (r : List Line). a ∷ r) (re
 
 -- what a scan that took all lines says of each of them
 module _ (limit : ℕ) where
-  rewrite_from : (cs : List (List ℕ)) (k n : ℕ) → scan_from node_line limit k cs ≡ Lines n
+  rewrite_from : (cs : List (List ℕ)) (k n : ℕ) → scan_from node_line limit k cs ≡ Ok n
       → (file_of (map (λ c. node_of (decode c)) cs) ≡ joined cs) × AllWritable (map (λ c. node_of (decode c)) cs)
   unfolding scan_from file_of joined
   rewrite_from [] k n e = (refl, tt)
@@ -118,8 +117,8 @@ module _ (limit : ℕ) where
       Kept : Type 0
       Kept = (file_of (map (λ c. node_of (decode c)) (c ∷ cs)) ≡ joined (c ∷ cs)) × AllWritable (map (λ c. node_of (decode c)) (c ∷ cs))
 
-      go : (t u : Bool) → node_line c ≡ u → cond (t && u) (scan_from node_line limit (suc k) cs) (Wrong k) ≡ Lines n
-          → (scan_from node_line limit (suc k) cs ≡ Lines n → (file_of (map (λ c. node_of (decode c)) cs) ≡ joined cs) × AllWritable (map (λ c. node_of (decode c)) cs)) → Kept
+      go : (t u : Bool) → node_line c ≡ u → cond (t && u) (scan_from node_line limit (suc k) cs) (Err k) ≡ Ok n
+          → (scan_from node_line limit (suc k) cs ≡ Ok n → (file_of (map (λ c. node_of (decode c)) cs) ≡ joined cs) × AllWritable (map (λ c. node_of (decode c)) cs)) → Kept
       go true true f h ih = let r = ih h in (ap₂ (λ (a b : List ℕ). a ++ b) (rewrite_line c f) r.0, (read_writable c f, r.1))
       go true false f h ih = absurd (let z : ◌≡◌ {A = ℕ} 0 1 = cc in omega arith)
       go false u f h ih = absurd (let z : ◌≡◌ {A = ℕ} 0 1 = cc in omega arith)
@@ -142,17 +141,17 @@ module _ (file : File) (of : OfNodes file) where
   forms = mathlib.Core.Path.fun_ext of
 
   -- a file written from good nodes scans as those nodes
-  pub scan_written : (ns : List Line) → AllWritable ns → length ns ≤ limit_of file → scan file (file_of ns) ≡ Lines (length ns)
+  pub scan_written : (ns : List Line) → AllWritable ns → length ns ≤ limit_of file → scan file (file_of ns) ≡ Ok (length ns)
   unfolding scan
-  scan_written ns g h = rw (forms, cut_file ns g) (scan_lines_of (limit_of file) 0 ns g (omega arith) ∙ ap Lines (let z : 0 + length ns ≡ length ns = omega arith in z))
+  scan_written ns g h = rw (forms, cut_file ns g) (scan_lines_of (limit_of file) 0 ns g (omega arith) ∙ ap Ok (let z : 0 + length ns ≡ length ns = omega arith in z))
 
   -- a good file written again is the same bytes
-  pub rewrite_file : (s : List ℕ) (n : ℕ) → scan file s ≡ Lines n → file_of (nodes s) ≡ s
+  pub rewrite_file : (s : List ℕ) (n : ℕ) → scan file s ≡ Ok n → file_of (nodes s) ≡ s
   unfolding scan nodes
   rewrite_file s n e = (rewrite_from (limit_of file) (cut s) 0 n (rw forms at e)).0 ∙ joined_cut s
 
   -- and its nodes are good
-  pub nodes_writable : (s : List ℕ) (n : ℕ) → scan file s ≡ Lines n → AllWritable (nodes s)
+  pub nodes_writable : (s : List ℕ) (n : ℕ) → scan file s ≡ Ok n → AllWritable (nodes s)
   unfolding scan nodes
   nodes_writable s n e = (rewrite_from (limit_of file) (cut s) 0 n (rw forms at e)).1
 

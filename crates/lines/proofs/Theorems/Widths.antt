@@ -1,7 +1,7 @@
 -- A line that has its file's form is at most as wide as the widest, and a file whose lines all have it is no longer than the longest.
 use Rattle.std.proofs.Math.Path.{◌≡◌, refl}
 use Rattle.std.proofs.Common.{ap, mul_comm, length-drop}
-use Rattle.std.specs.Prelude.{Bool, ◌&&◌, eqb, leb, get_or, drop}
+use Rattle.std.specs.Prelude.{Bool, ◌&&◌, eqb, leb, get_or, drop, Option, None, Some, Ok, Err}
 use Rattle.std.proofs.Math.Bool.{true, false, cond}
 use mathlib.Core.List.{List, [], ◌∷◌, ◌++◌}
 use Prim.Native.Nat.{ℕ, suc, ◌+◌, ◌*◌, ◌-◌, ◌≤◌, ◌<◌}
@@ -12,13 +12,12 @@ use Rattle.std.proofs.Math.ListN.{length, length-append}
 use borrow.Author.Tests.{leb-true, eqb-true, ltb-true}
 use Rattle.lines.specs.declared.scan.File.{File}
 use Rattle.lines.specs.declared.scan.File.TheVariants.{Program, Master, View}
-use Rattle.lines.specs.declared.scan.Scan.TheVariants.{Lines, Wrong}
 use Rattle.lines.specs.declared.table.Shape.{Shape}
-use Rattle.lines.specs.declared.table.Shape.TheVariants.{Nothing, Text, Tag, Slot, Missing}
+use Rattle.lines.specs.declared.table.Shape.TheVariants.{Nothing, Text, Tag, Slot}
 use Rattle.lines.specs.Hex.{decode}
 use Rattle.lines.specs.Lines.{pairs_then_end, is_line, cut}
 use Rattle.lines.specs.Nodes.{Line, node_form, node_line}
-use Rattle.lines.specs.Entries.{text_form, operand_form, entry_form, entry_line, row_of}
+use Rattle.lines.specs.Entries.{text_form, operand_form, entry_form, entry_line, operand_shape}
 use Rattle.lines.specs.Files.{form_of, limit_of, widest_of, longest_of, scan_from, scan}
 use Rattle.lines.specs.Writing.{file_of}
 use Rattle.lines.specs.Theorems.Bools.{never, and_left, and_right}
@@ -40,13 +39,13 @@ pub text_some : (b : List ℕ) → text_form b ≡ true → 1 ≤ length b
 unfolding text_form
 text_some b e = leb-true 1 (length b) (and_left (leb 1 (length b)) _ e)
 
-operand_short : (shape : Shape) (b : List ℕ) → operand_form shape b ≡ true → length b ≤ 33
+operand_short : (shape : Option Shape) (b : List ℕ) → operand_form shape b ≡ true → length b ≤ 33
 unfolding operand_form
-operand_short Nothing b e = let y = eqb-true (length b) 0 e in omega arith
-operand_short Text b e = text_short b e
-operand_short Tag b e = text_short b (and_left (text_form b) _ e)
-operand_short Slot b e = let y = eqb-true (length b) 1 e in omega arith
-operand_short Missing b e = never e
+operand_short (Some Nothing) b e = let y = eqb-true (length b) 0 e in omega arith
+operand_short (Some Text) b e = text_short b e
+operand_short (Some Tag) b e = text_short b (and_left (text_form b) _ e)
+operand_short (Some Slot) b e = let y = eqb-true (length b) 1 e in omega arith
+operand_short None b e = never e
 
 line_width : (c : List ℕ) → is_line c ≡ true → length c ≡ 1 + 2 * length (decode c)
 unfolding is_line
@@ -56,7 +55,7 @@ entry_width : (c : List ℕ) → entry_line c ≡ true → length c ≤ 69
 unfolding entry_line entry_form
 entry_width c e =
     let b = decode c in
-    let x = operand_short (row_of (get_or b 0 0)).0 (drop 1 b) (and_right (is_line c) _ e) in
+    let x = operand_short (operand_shape (get_or b 0 0)) (drop 1 b) (and_right (is_line c) _ e) in
     omega (arith, line_width c (and_left (is_line c) _ e), length-drop 1 b)
 
 node_width : (c : List ℕ) → node_line c ≡ true → length c ≤ 77
@@ -96,19 +95,19 @@ module _ (form : List ℕ → Bool) (limit width : ℕ) (wide : (c : List ℕ) �
   taken_few n (c ∷ cs) h = go (ltb n limit) (form c) refl (λ g. taken_few (suc n) cs g)
     where
       go : (t u : Bool) → ltb n limit ≡ t → (suc n ≤ limit → taken (scan_from form limit (suc n) cs) ≤ limit)
-          → taken (cond (t && u) (scan_from form limit (suc n) cs) (Wrong n)) ≤ limit
+          → taken (cond (t && u) (scan_from form limit (suc n) cs) (Err n)) ≤ limit
       go true true q ih = ih (ltb-true n limit q)
       go true false q ih = h
       go false u q ih = h
 
   -- a scan that took all lines took few bytes
-  pub joined_short : (n : ℕ) (cs : List (List ℕ)) (k : ℕ) → n ≤ limit → scan_from form limit n cs ≡ Lines k → length (joined cs) ≤ width * (limit - n)
+  pub joined_short : (n : ℕ) (cs : List (List ℕ)) (k : ℕ) → n ≤ limit → scan_from form limit n cs ≡ Ok k → length (joined cs) ≤ width * (limit - n)
   unfolding scan_from joined
   joined_short n [] k h e = omega arith
   joined_short n (c ∷ cs) k h e = go (ltb n limit) (form c) refl refl e (λ g r. joined_short (suc n) cs k g r)
     where
-      go : (t u : Bool) → ltb n limit ≡ t → form c ≡ u → cond (t && u) (scan_from form limit (suc n) cs) (Wrong n) ≡ Lines k
-          → (suc n ≤ limit → scan_from form limit (suc n) cs ≡ Lines k → length (joined cs) ≤ width * (limit - suc n)) → length (c ++ joined cs) ≤ width * (limit - n)
+      go : (t u : Bool) → ltb n limit ≡ t → form c ≡ u → cond (t && u) (scan_from form limit (suc n) cs) (Err n) ≡ Ok k
+          → (suc n ≤ limit → scan_from form limit (suc n) cs ≡ Ok k → length (joined cs) ≤ width * (limit - suc n)) → length (c ++ joined cs) ≤ width * (limit - n)
       go true true q f r ih =
           let l : n < limit = ltb-true n limit q in
           let z : limit - n ≡ suc (limit - suc n) = omega arith in
@@ -123,7 +122,7 @@ unfolding scan
 scan_few file s = taken_few (form_of file) (limit_of file) (widest_of file) (form_width file) 0 (cut s) (omega arith)
 
 -- a file that scans is within the longest legal one
-pub scanned_short : (file : File) (s : List ℕ) (n : ℕ) → scan file s ≡ Lines n → length s ≤ longest_of file
+pub scanned_short : (file : File) (s : List ℕ) (n : ℕ) → scan file s ≡ Ok n → length s ≤ longest_of file
 unfolding scan longest_of
 scanned_short file s n e =
     let h = joined_short (form_of file) (limit_of file) (widest_of file) (form_width file) 0 (cut s) n (omega arith) e in

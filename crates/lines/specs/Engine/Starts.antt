@@ -1,14 +1,12 @@
 -- A file by where its lines begin: what is read there, and what the scanner leaves.
-use Rattle.std.specs.Prelude.{ℕ, zero, suc, ◌+◌, ◌*◌, ◌≤◌, ◌≡◌, cond, List, [], ◌∷◌, ◌++◌, map, eqb, length, get_or, take, drop}
+use Rattle.std.specs.Prelude.{ℕ, zero, suc, ◌+◌, ◌*◌, ◌≤◌, ◌≡◌, cond, List, [], ◌∷◌, ◌++◌, map, eqb, length, get_or, take, drop, Option, None, Some, Result, Ok, Err}
 use Rattle.lines.specs.declared.scan.File.{File}
-use Rattle.lines.specs.declared.scan.Scan.{Scan}
-use Rattle.lines.specs.declared.scan.Scan.TheVariants.{Lines, Wrong}
 use Rattle.lines.specs.declared.table.Shape.{Shape}
-use Rattle.lines.specs.declared.table.Shape.TheVariants.{Nothing, Text, Tag, Slot, Missing}
+use Rattle.lines.specs.declared.table.Shape.TheVariants.{Nothing, Text, Tag, Slot}
 use Rattle.lines.specs.Hex.{hex_value}
 use Rattle.lines.specs.Lines.{cut, pairs_then_end}
 use Rattle.lines.specs.Nodes.{Line}
-use Rattle.lines.specs.Entries.{Entry, row_of}
+use Rattle.lines.specs.Entries.{Entry, operand_shape}
 use Rattle.lines.specs.Files.{limit_of, scan}
 
 -- ## What stands at a place
@@ -38,16 +36,16 @@ node_at s p =
     }
 
 -- the operand that begins at place p
-unfoldable pub operand_at : Shape → List ℕ → ℕ → List ℕ
-operand_at Nothing s p = []
-operand_at Text s p = pair_at s p ∷ text_at s p
-operand_at Tag s p = pair_at s p ∷ text_at s p
-operand_at Slot s p = pair_at s p ∷ []
-operand_at Missing s p = []
+unfoldable pub operand_at : Option Shape → List ℕ → ℕ → List ℕ
+operand_at None s p = []
+operand_at (Some Nothing) s p = []
+operand_at (Some Text) s p = pair_at s p ∷ text_at s p
+operand_at (Some Tag) s p = pair_at s p ∷ text_at s p
+operand_at (Some Slot) s p = pair_at s p ∷ []
 
 -- the entry whose line begins at place p
 unfoldable pub entry_at : List ℕ → ℕ → Entry
-entry_at s p = record { operation = pair_at s p; operand = operand_at (row_of (pair_at s p)).0 s (p + 2) }
+entry_at s p = record { operation = pair_at s p; operand = operand_at (operand_shape (pair_at s p)) s (p + 2) }
 
 -- ## Where lines begin
 
@@ -60,9 +58,9 @@ line_length (x ∷ xs) = cond (eqb x 0x0A) 1 (suc (line_length xs))
 abbrev pub first_line : List ℕ → List ℕ
 first_line s = take (line_length s) s
 
--- past the line that begins at place p, if it is whole pairs and 0A; else p
-unfoldable pub pairs_end : List ℕ → ℕ → ℕ
-pairs_end s p = cond (pairs_then_end (first_line (drop p s))) (p + line_length (drop p s)) p
+-- past the line that begins at place p, if it is whole pairs and 0A
+unfoldable pub pairs_end : List ℕ → ℕ → Option ℕ
+pairs_end s p = cond (pairs_then_end (first_line (drop p s))) (Some (p + line_length (drop p s))) None
 
 -- where each line begins, the first at place p
 unfoldable pub starts_from : ℕ → List (List ℕ) → List ℕ
@@ -83,12 +81,12 @@ entries_of s starts = map (entry_at s) starts
 -- ## Scanning
 
 -- the lines that have the form, before the answer
-abbrev pub taken : Scan → ℕ
-taken (Lines n) = n
-taken (Wrong n) = n
+abbrev pub taken : Result ℕ ℕ → ℕ
+taken (Ok n) = n
+taken (Err n) = n
 
 -- what the scanner leaves: its answer, and in `noted` where each line begins that it took
-pub record Scanned (file : File) (s before noted : List ℕ) (r : Scan) : Type 0 where
+pub record Scanned (file : File) (s before noted : List ℕ) (r : Result ℕ ℕ) : Type 0 where
   pub answer : r ≡ scan file s
   pub few : taken r ≤ limit_of file
   pub places : noted ≡ take (taken r) (starts s) ++ drop (taken r) before

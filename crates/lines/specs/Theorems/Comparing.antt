@@ -1,10 +1,9 @@
 -- Steps of the comparisons: of two texts, and of a view's lines with the fresh ones.
-use Rattle.std.specs.Prelude.{◌≡◌, refl, true, false, List, [], ◌∷◌, ℕ, ◌+◌, ◌-◌, ◌≤◌, ◌<◌, get_or, drop}
+use Rattle.std.specs.Prelude.{◌≡◌, refl, true, false, List, [], ◌∷◌, ℕ, ◌+◌, ◌-◌, ◌≤◌, ◌<◌, get_or, drop, None, Some}
 use Rattle.std.proofs.Common.{sym, ap, ◌∙◌, add-one}
 use native.Mathlib.Omega.{arith}
 use Rattle.std.proofs.Math.ListN.{length, drop_of_length-le}
 use borrow.Author.Tests.{eq-eqb, ne_eqb}
-use Rattle.lines.specs.declared.verdict.Verdict.TheVariants.{Fine, Fault}
 use Rattle.lines.specs.Nodes.{Line}
 use Rattle.lines.specs.Texts.{same_text}
 use Rattle.lines.specs.Views.{same_head, same_line, difference_from}
@@ -52,20 +51,20 @@ module _ (v f : Line) where
   line_text e m = rw (e, ne_eqb v.mark 1 m)
 
 -- lines from line n on
-pub no_difference : (n : ℕ) → difference_from n [] [] ≡ Fine
+pub no_difference : (n : ℕ) → difference_from n [] [] ≡ None
 unfolding difference_from
 no_difference n = refl
 
-pub view_short : (n : ℕ) (f : Line) (fs : List Line) → difference_from n [] (f ∷ fs) ≡ Fault n
+pub view_short : (n : ℕ) (f : Line) (fs : List Line) → difference_from n [] (f ∷ fs) ≡ Some n
 unfolding difference_from
 view_short n f fs = refl
 
-pub view_long : (n : ℕ) (v : Line) (vs : List Line) → difference_from n (v ∷ vs) [] ≡ Fault n
+pub view_long : (n : ℕ) (v : Line) (vs : List Line) → difference_from n (v ∷ vs) [] ≡ Some n
 unfolding difference_from
 view_long n v vs = refl
 
 module _ (n : ℕ) (v f : Line) (vs fs : List Line) where
-  pub difference_here : same_line v f ≡ false → difference_from n (v ∷ vs) (f ∷ fs) ≡ Fault n
+  pub difference_here : same_line v f ≡ false → difference_from n (v ∷ vs) (f ∷ fs) ≡ Some n
   unfolding difference_from
   difference_here e = rw e
 

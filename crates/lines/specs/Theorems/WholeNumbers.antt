@@ -1,9 +1,7 @@
 -- Whole numbers: exactly the texts of the form have one, minus zero is zero, leading zeros change nothing, and none is large.
-use Rattle.std.specs.Prelude.{◌≡◌, refl, Bool, true, false, List, [], ◌∷◌, ℕ, zero, suc, ◌+◌, ◌*◌, ◌-◌, ◌≤◌, ◌<◌, leb, ℤ, pos, neg_ℤ, nat_abs, length}
+use Rattle.std.specs.Prelude.{◌≡◌, refl, Bool, true, false, List, [], ◌∷◌, ℕ, zero, suc, ◌+◌, ◌*◌, ◌-◌, ◌≤◌, ◌<◌, leb, ℤ, pos, neg_ℤ, nat_abs, length, None, Some, is_some}
 use Rattle.std.proofs.Common.{sym, ap, ◌∙◌, le_trans, arith}
 use borrow.Author.Tests.{leb-true, le-leb, ne_eqb}
-use Rattle.lines.specs.declared.numbers.Whole.{Whole}
-use Rattle.lines.specs.declared.numbers.Whole.TheVariants.{Number, Missing}
 use Rattle.lines.specs.Hex.{between}
 use Rattle.lines.specs.Nodes.{all_of}
 use Rattle.lines.specs.Numbers.{minus, has_minus, digits_in, are_digits, digits_value, signed, whole_number}
@@ -73,12 +71,8 @@ signed_size true zero = refl
 signed_size true (suc n) = refl
 signed_size false n = refl
 
-abbrev is_number : Whole → Bool
-is_number (Number n) = true
-is_number Missing = false
-
 -- "one to nine digits", with a minus or without
-pub whole_most : (text : List ℕ) (n : ℤ) → whole_number text ≡ Number n → nat_abs n ≤ 999999999
+pub whole_most : (text : List ℕ) (n : ℤ) → whole_number text ≡ Some n → nat_abs n ≤ 999999999
 unfolding whole_number
 whole_most text n e = go (are_digits (digits_in text)) refl
   where
@@ -88,16 +82,16 @@ whole_most text n e = go (are_digits (digits_in text)) refl
         let size : nat_abs n ≡ digits_value 0 (digits_in text) = ap nat_abs (sym same) ∙ signed_size (has_minus text) (digits_value 0 (digits_in text)) in
         let most = digits_most (digits_in text) h in
         omega arith
-    go false h = never (ap is_number (rw h at e))
+    go false h = never (ap is_some (rw h at e))
 
 -- ## The form
 
 -- a text has a number exactly if it has the form
-pub none_outside : (text : List ℕ) → are_digits (digits_in text) ≡ false → whole_number text ≡ Missing
+pub none_outside : (text : List ℕ) → are_digits (digits_in text) ≡ false → whole_number text ≡ None
 unfolding whole_number
 none_outside text h = rw h
 
-pub some_inside : (text : List ℕ) → are_digits (digits_in text) ≡ true → whole_number text ≡ Number (signed (has_minus text) (digits_value 0 (digits_in text)))
+pub some_inside : (text : List ℕ) → are_digits (digits_in text) ≡ true → whole_number text ≡ Some (signed (has_minus text) (digits_value 0 (digits_in text)))
 unfolding whole_number
 some_inside text h = rw h
 
@@ -110,17 +104,17 @@ digits_plain (d ∷ ds) t = let b = first_digit d ds (digits_parts (d ∷ ds) t)
 -- ## The value
 
 module _ (ds : List ℕ) (t : are_digits ds ≡ true) where
-  pub digits_whole : whole_number ds ≡ Number (pos (digits_value 0 ds))
+  pub digits_whole : whole_number ds ≡ Some (pos (digits_value 0 ds))
   unfolding digits_in signed
   digits_whole = let p = digits_plain ds t in rw p at (some_inside ds (rw p t))
 
-  pub minus_whole : whole_number (minus ∷ ds) ≡ Number (neg_ℤ (pos (digits_value 0 ds)))
+  pub minus_whole : whole_number (minus ∷ ds) ≡ Some (neg_ℤ (pos (digits_value 0 ds)))
   unfolding digits_in has_minus signed
   minus_whole = some_inside (minus ∷ ds) t
 
   -- "minus zero equal to zero"
   pub minus_zero : digits_value 0 ds ≡ 0 → whole_number (minus ∷ ds) ≡ whole_number ds
-  minus_zero z = minus_whole ∙ (ap (λ (n : ℕ). Number (neg_ℤ (pos n))) z ∙ sym (digits_whole ∙ ap (λ (n : ℕ). Number (pos n)) z))
+  minus_zero z = minus_whole ∙ (ap (λ (n : ℕ). Some (neg_ℤ (pos n))) z ∙ sym (digits_whole ∙ ap (λ (n : ℕ). Some (pos n)) z))
 
   module _ (short : length ds ≤ 8) where
     longer : are_digits (0x30 ∷ ds) ≡ true

@@ -1,9 +1,8 @@
 -- The rules and section 3 of the paper agree, for any program, master and view that reach a run.
-use Rattle.std.specs.Prelude.{◌≡◌, ◌⊎◌, ℕ, ◌≤◌, length}
+use Rattle.std.specs.Prelude.{◌≡◌, ◌⊎◌, ℕ, ◌≤◌, length, None, Some}
 use Rattle.std.proofs.Math.Path.{refl, subst⁻¹}
 use Rattle.std.proofs.Common.{sym, ap, subst, ◌∙◌, inl, inr, arith}
 use mathlib.Core.List.{List, [], append-nil}
-use Rattle.lines.specs.declared.verdict.Verdict.TheVariants.{Fine as Faultless, Fault}
 use Rattle.lines.specs.Entries.{Entry}
 use Rattle.lines.specs.Nodes.{Line, kind_rule}
 use Rattle.lines.specs.Masters.{master_bounds}
@@ -43,7 +42,7 @@ use Rattle.paper.proofs.Theorems.Suspects.{clash_suspect}
 -- ## Showing
 
 module _ (entries : List Entry) (X : Transformation) (read : read_program entries ≡ gives X) (ls : List Line) (few : length ls ≤ most_nodes) (formed : Formed ls)
-    (bounds : master_bounds ls ≡ Faultless) where
+    (bounds : master_bounds ls ≡ None) where
   abbrev Trees-agree : Result Stop Shown → May Sequence → Type 0
   Trees-agree = Agrees (lookup_in (numbered_from 0 ls)) (marks_in (numbered_from 0 ls))
 
@@ -86,7 +85,7 @@ only_size ls (stops (Size e)) T h = inr (e, refl)
 
 -- ## What the paper is given: reading loses nothing
 
-pub master_read : (ls : List Line) → length ls ≤ most_nodes → Formed ls → master_bounds ls ≡ Faultless → paper_lines (kinds_in ls) (sequence ls) ≡ ls
+pub master_read : (ls : List Line) → length ls ≤ most_nodes → Formed ls → master_bounds ls ≡ None → paper_lines (kinds_in ls) (sequence ls) ≡ ls
 master_read ls few formed bounds = print_read (kinds_in ls) ls (master_ordered ls formed few bounds)
 
 pub view_read : (entries : List Entry) (X : Transformation) (ls edited : List Line) (o : Shown) → PassedTen entries X ls edited o
@@ -99,7 +98,7 @@ view_read entries X ls edited o J =
 -- ## Putting back
 
 module _ (entries : List Entry) (X : Transformation) (ls edited : List Line) (o : Shown) (J : PassedTen entries X ls edited o) where
-  handed_formed : clash_of X ls edited ≡ Faultless → Formed (handed_back_by X ls edited)
+  handed_formed : clash_of X ls edited ≡ None → Formed (handed_back_by X ls edited)
   handed_formed accepted n =
       let s = standing_for (one_master ls) X edited in
       rw (one_handed_back s ls n)
@@ -107,7 +106,7 @@ module _ (entries : List Entry) (X : Transformation) (ls edited : List Line) (o 
       (same_formed kind_rule (one_master ls) o edited J.same J.formed n))
 
   -- the lines handed back are in order, so what is read of them is printed as they are
-  handed_read_back : clash_of X ls edited ≡ Faultless → paper_lines (kinds_in ls) (sequence (handed_back_by X ls edited)) ≡ handed_back_by X ls edited
+  handed_read_back : clash_of X ls edited ≡ None → paper_lines (kinds_in ls) (sequence (handed_back_by X ls edited)) ≡ handed_back_by X ls edited
   handed_read_back accepted =
       print_read (kinds_in ls) (handed_back_by X ls edited)
       (handed_ordered (kinds_in ls) (standing_for (one_master ls) X edited) 0 0 ls (handed_formed accepted) (master_ordered ls J.master_formed J.few J.bounds))
@@ -122,16 +121,16 @@ putting_back_agrees entries X ls edited o J =
       apart = λ r p n c. clash_suspect entries X ls edited o J n r p (fault_least (standing_for (one_master ls) X edited) 0 (numbered_from 0 ls) (one_rising 0 ls) n c).0;
     }
   where
-    whole : PutAlike strict_guard X ls edited o → clash_of X ls edited ≡ Faultless
+    whole : PutAlike strict_guard X ls edited o → clash_of X ls edited ≡ None
         → (S : Sequence) × (put_back_by strict_guard X ls (counted_view ls o edited) ≡ got (S, [])) × (handed_back_by X ls edited ≡ paper_lines (kinds_in ls) S)
     whole (both_put S p q c) h = (S, p, sym (handed_read_back entries X ls edited o J h) ∙ ap (paper_lines (kinds_in ls)) (sym q) ∙ print_unlocked (kinds_in ls) S)
     whole (both_fail p n c) h = let z : ◌≡◌ {A = ℕ} 0 1 = cc in absurd (omega arith)
 
-    torn : PutAlike strict_guard X ls edited o → (n : ℕ) → clash_of X ls edited ≡ Fault n → put_back_by strict_guard X ls (counted_view ls o edited) ≡ fail
+    torn : PutAlike strict_guard X ls edited o → (n : ℕ) → clash_of X ls edited ≡ Some n → put_back_by strict_guard X ls (counted_view ls o edited) ≡ fail
     torn (both_put S p q c) n h = let z : ◌≡◌ {A = ℕ} 0 1 = cc in absurd (omega arith)
     torn (both_fail p m c) n h = p
 
-    fails : PutAlike strict_guard X ls edited o → put_back_by guard X ls (counted_view ls o edited) ≡ fail → (n : ℕ) × (clash_of X ls edited ≡ Fault n)
+    fails : PutAlike strict_guard X ls edited o → put_back_by guard X ls (counted_view ls o edited) ≡ fail → (n : ℕ) × (clash_of X ls edited ≡ Some n)
     fails (both_put S p q c) h =
         let r = strict_yields (in_paper X) [] (sequence ls) (sequence (counted_view ls o edited)) (S, []) p in
         let z : ◌≡◌ {A = ℕ} 0 1 = cc in

@@ -1,13 +1,11 @@
 -- Putting back and the paper, on lines: alike with any guard that locks or clashes, so with the strict one always.
-use Rattle.std.specs.Prelude.{◌≡◌, Bool, ℕ, ◌<◌, length}
+use Rattle.std.specs.Prelude.{◌≡◌, Bool, ℕ, ◌<◌, length, Option, None, Some}
 use Rattle.std.proofs.Math.Path.{refl, sym, ap, subst⁻¹}
 use Rattle.std.proofs.Common.{subst, ◌∙◌, arith, zero-add}
 use Rattle.std.proofs.Math.Bool.{true, false}
 use mathlib.Core.List.{List, [], ◌∷◌, ◌++◌, append-nil}
 use Rattle.std.proofs.Math.Dec.{ltb}
 use borrow.Author.Tests.{ltb-true, ltb-false}
-use Rattle.lines.specs.declared.verdict.Verdict.{Verdict}
-use Rattle.lines.specs.declared.verdict.Verdict.TheVariants.{Fine as Faultless, Fault}
 use Rattle.lines.specs.Entries.{Entry}
 use Rattle.lines.specs.Nodes.{Line}
 use Rattle.lines.specs.Views.{first_difference, program_mark}
@@ -48,8 +46,8 @@ use Rattle.paper.specs.Agreement.{PassedTen, clash_of, handed_back_by, put_back_
 -- both go through, with the same texts and marks (`non` read as untouched); or the paper fails and there is a clash
 pub data PutAlike (g : Guard) (X : Transformation) (ls edited : List Line) (o : Shown) : Type 0 where
   both_put : (S : Sequence) → put_back_by g X ls (counted_view ls o edited) ≡ got (S, []) → unlocked S ≡ sequence (handed_back_by X ls edited)
-      → clash_of X ls edited ≡ Faultless → PutAlike g X ls edited o
-  both_fail : put_back_by g X ls (counted_view ls o edited) ≡ fail → (n : ℕ) → clash_of X ls edited ≡ Fault n → PutAlike g X ls edited o
+      → clash_of X ls edited ≡ None → PutAlike g X ls edited o
+  both_fail : put_back_by g X ls (counted_view ls o edited) ≡ fail → (n : ℕ) → clash_of X ls edited ≡ Some n → PutAlike g X ls edited o
 
 pub any_permitted : (v : Value) (ss : List Standing) → AllPermitted any_standing v ss
 any_permitted [] ss = tt
@@ -104,15 +102,15 @@ module _ (entries : List Entry) (X : Transformation) (ls edited : List Line) (o 
       go false e = ap is_clash (standing_handed ss n ∙ gathered_outside ls (handed_for ss) n (ltb-false n (length ls) e))
 
   -- a clash has a place
-  clash_place : (n : ℕ) → is_clash (s n) ≡ true → (m : ℕ) × (clash_of X ls edited ≡ Fault m)
+  clash_place : (n : ℕ) → is_clash (s n) ≡ true → (m : ℕ) × (clash_of X ls edited ≡ Some m)
   clash_place n c = go (clash_of X ls edited) refl
     where
-      go : (r : Verdict) → clash_of X ls edited ≡ r → (m : ℕ) × (clash_of X ls edited ≡ Fault m)
-      go Faultless e =
+      go : (r : Option ℕ) → clash_of X ls edited ≡ r → (m : ℕ) × (clash_of X ls edited ≡ Some m)
+      go None e =
           let q = fine_no_clash s all e n (λ h. standing_gathered n ∙ absent_gathered n (whole all) rs (one_covered ls n h).0) in
           let z : ◌≡◌ {A = ℕ} 0 1 = cc in
           absurd (omega arith)
-      go (Fault m) e = (m, e)
+      go (Some m) e = (m, e)
 
   -- the master's trees
   pub master_trees : Grown ls

@@ -1,7 +1,6 @@
 -- A master in which reply 5 finds no fault, as trees: its lines are theirs, and each number stands once.
-use Rattle.std.specs.Prelude.{◌≡◌, refl, Bool, true, false, cond, ◌&&◌, List, [], ◌∷◌, ◌++◌, map, ℕ, zero, suc, ◌+◌, ◌-◌, ◌<◌, ◌≤◌, eqb, leb, length, get_or}
+use Rattle.std.specs.Prelude.{◌≡◌, refl, Bool, true, false, cond, ◌&&◌, List, [], ◌∷◌, ◌++◌, map, ℕ, zero, suc, ◌+◌, ◌-◌, ◌<◌, ◌≤◌, eqb, leb, length, get_or, None, Some}
 use Rattle.std.proofs.Common.{sym, ap, ◌∙◌, append-nil, append_assoc, arith, eqb-true, eq-eqb, ne_eqb}
-use Rattle.lines.specs.declared.verdict.Verdict.TheVariants.{Fine, Fault}
 use Rattle.lines.specs.Nodes.{Line, untouched_mark, program_number, no_line}
 use Rattle.lines.specs.Masters.{depth_after, placed, bounds_from, master_bounds}
 use Rattle.lines.specs.Theorems.Bools.{and_parts}
@@ -132,7 +131,7 @@ whole_numbering k [] h = tt
 whole_numbering k (l ∷ ls) h = (ne_eqb k program_number (λ e. omega arith), whole_numbering (suc k) ls (omega arith))
 
 -- the lines from number k on, as they are looked up among all
-lines_shown : (all : List Numbered) (most k : ℕ) (ls : List Line) → bounds_from most k ls ≡ Fine → ((i : ℕ) → i < length ls → line_of all (k + i) ≡ get_or ls i no_line)
+lines_shown : (all : List Numbered) (most k : ℕ) (ls : List Line) → bounds_from most k ls ≡ None → ((i : ℕ) → i < length ls → line_of all (k + i) ≡ get_or ls i no_line)
     → map (λ x. shown_line all x.depth x.origin) (whole (numbered_from k ls)) ≡ ls
 unfolding bounds_from placed whole numbered_from shown_line
 lines_shown all most k [] h f = refl
@@ -143,8 +142,8 @@ lines_shown all most k (l ∷ ls) h f =
     own : line_of all k ≡ l
     own = ap (line_of all) (let e : k ≡ k + 0 = omega arith in e) ∙ f 0 (omega arith)
 
-    go : (b : Bool) → placed most k l ≡ b → cond b (bounds_from (depth_after l) (suc k) ls) (Fault k) ≡ Fine
-        → (bounds_from (depth_after l) (suc k) ls ≡ Fine → map (λ x. shown_line all x.depth x.origin) (whole (numbered_from (suc k) ls)) ≡ ls)
+    go : (b : Bool) → placed most k l ≡ b → cond b (bounds_from (depth_after l) (suc k) ls) (Some k) ≡ None
+        → (bounds_from (depth_after l) (suc k) ls ≡ None → map (λ x. shown_line all x.depth x.origin) (whole (numbered_from (suc k) ls)) ≡ ls)
         → shown_line all l.depth (master k) ∷ map (λ x. shown_line all x.depth x.origin) (whole (numbered_from (suc k) ls)) ≡ l ∷ ls
     go true e q ih =
         let p = and_parts (leb l.depth most) (leb l.depth 7 && eqb l.number k) e in
@@ -153,7 +152,7 @@ lines_shown all most k (l ∷ ls) h f =
     go false e q ih = let z : ◌≡◌ {A = ℕ} 0 1 = cc in absurd (omega arith)
 
 -- a master is its own view
-pub view_whole : (ls : List Line) → master_bounds ls ≡ Fine → view (one_master ls) (whole (numbered_from 0 ls)) ≡ ls
+pub view_whole : (ls : List Line) → master_bounds ls ≡ None → view (one_master ls) (whole (numbered_from 0 ls)) ≡ ls
 unfolding master_bounds view
 view_whole ls h = lines_shown (numbered_from 0 ls) 0 0 ls h (λ i b. one_line 0 ls i)
 
@@ -164,7 +163,7 @@ pub record Grown (ls : List Line) : Type 0 where
   pub flat_is : whole (numbered_from 0 ls) ≡ flat 0 trees
   pub read : sequence ls ≡ paint (lookup_in (numbered_from 0 ls)) (marks_in (numbered_from 0 ls)) trees
 
-pub master_grown : (ls : List Line) → length ls ≤ most_nodes → master_bounds ls ≡ Fine → Grown ls
+pub master_grown : (ls : List Line) → length ls ≤ most_nodes → master_bounds ls ≡ None → Grown ls
 master_grown ls few h =
     let t = grown (lookup_in (numbered_from 0 ls)) (whole (numbered_from 0 ls)) (master_good ls few h).trees (whole_numbering 0 ls (omega arith)) in
     record {

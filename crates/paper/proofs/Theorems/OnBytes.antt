@@ -1,12 +1,10 @@
 -- Showing and putting back do, on bytes, what the paper says: what passes replies 2 to 10 is what the agreements ask.
-use Rattle.std.specs.Prelude.{ℕ, ◌≡◌, Bool, false, eqb}
+use Rattle.std.specs.Prelude.{ℕ, ◌≡◌, Bool, false, eqb, Option, None, Some}
 use Rattle.std.proofs.Math.Path.{refl}
 use Rattle.std.proofs.Common.{sym, ap, subst, ◌∙◌, arith}
 use Rattle.std.proofs.Math.Bool.{true}
 use mathlib.Core.List.{List, []}
 use Rattle.std.proofs.lemmas.Bool.{eqb-false}
-use Rattle.lines.specs.declared.verdict.Verdict.{Verdict}
-use Rattle.lines.specs.declared.verdict.Verdict.TheVariants.{Fine as Faultless, Fault}
 use Rattle.lines.specs.Nodes.{Line, nodes}
 use Rattle.lines.specs.Entries.{entries}
 use Rattle.lines.specs.Verdicts.{Reply}
@@ -178,9 +176,9 @@ module _ (master program edited : List ℕ) (X : Transformation) (p : judged_pro
   unfolding judged_standings keeps
   clash_fails r = go (clash_of X ls es) refl
     where
-      go : (c : Verdict) → clash_of X ls es ≡ c → (keeps 11 c >> gives (handed_back_by X ls es)) ≡ stops r → Fails master program edited
-      go Faultless e h = absurd (gives_refusing (λ _. ⊥) (handed_back_by X ls es) r h)
-      go (Fault n) e h = (on_paper, on_lines strict_guard ∙ agrees.refused n e)
+      go : (c : Option ℕ) → clash_of X ls es ≡ c → (keeps 11 c >> gives (handed_back_by X ls es)) ≡ stops r → Fails master program edited
+      go None e h = absurd (gives_refusing (λ _. ⊥) (handed_back_by X ls es) r h)
+      go (Some n) e h = (on_paper, on_lines strict_guard ∙ agrees.refused n e)
 
 put_back_done : (master program edited : List ℕ) (hs : List Line) → judged_put_back master program edited ≡ gives hs → HandsBack master program edited hs
 put_back_done master program edited hs h =

@@ -1,11 +1,10 @@
 -- The lines of a judged master, of what is shown of it, of a view put back and of what is handed back are in order.
 use Rattle.std.proofs.Math.Path.{◌≡◌, refl}
 use Rattle.std.proofs.Common.{sym, ap, subst, ◌∙◌}
-use Rattle.std.specs.Prelude.{Bool, ℕ, suc, ◌+◌, ◌≤◌, length}
+use Rattle.std.specs.Prelude.{Bool, ℕ, suc, ◌+◌, ◌≤◌, length, None, Some}
 use Rattle.std.proofs.Math.Bool.{true, false, cond}
 use mathlib.Core.List.{List, [], ◌∷◌}
 use native.Mathlib.Omega.{arith}
-use Rattle.lines.specs.declared.verdict.Verdict.TheVariants.{Fine as Faultless, Fault}
 use Rattle.lines.specs.Nodes.{Line, is_element, kind_rule, line_at}
 use Rattle.lines.specs.Masters.{depth_after, master_bounds}
 use Rattle.lines.specs.Views.{same_line, difference_from}
@@ -84,7 +83,7 @@ module _ (ls : List Line) (formed : Formed ls) where
       (rw (shown_line_depth (numbered_from 0 ls) x.depth x.origin) (omega arith), shown_sayable x.depth x.origin n.0, walk_ordered x v f.1 n.1)
 
   -- a master is shown as it is
-  pub master_ordered : length ls ≤ most_nodes → master_bounds ls ≡ Faultless → InOrder (kinds_in ls) 0 ls
+  pub master_ordered : length ls ≤ most_nodes → master_bounds ls ≡ None → InOrder (kinds_in ls) 0 ls
   master_ordered few h =
       subst (InOrder (kinds_in ls) 0) (view_whole ls h)
       (forest_ordered (whole (numbered_from 0 ls)) (master_good ls few h).trees (whole_numbering 0 ls (omega arith)))
@@ -93,14 +92,14 @@ module _ (ls : List Line) (formed : Formed ls) where
 
 module _ (kinds : ℕ → ℕ) where
   -- a formed view that does not differ from lines in order
-  pub same_ordered : (k most : ℕ) (ws fs : List Line) → difference_from k ws fs ≡ Faultless → Formed ws → InOrder kinds most fs → InOrder kinds most ws
+  pub same_ordered : (k most : ℕ) (ws fs : List Line) → difference_from k ws fs ≡ None → Formed ws → InOrder kinds most fs → InOrder kinds most ws
   unfolding difference_from
   same_ordered k most [] fs h form o = tt
   same_ordered k most (w ∷ ws) [] h form o = let z : ◌≡◌ {A = ℕ} 0 1 = cc in absurd (omega arith)
   same_ordered k most (w ∷ ws) (f ∷ fs) h form o = go (same_line w f) refl h (λ q. same_ordered (suc k) (depth_after f) ws fs q (λ i. form (suc i)) o.2)
     where
-      go : (b : Bool) → same_line w f ≡ b → cond b (difference_from (suc k) ws fs) (Fault k) ≡ Faultless
-          → (difference_from (suc k) ws fs ≡ Faultless → InOrder kinds (depth_after f) ws) → InOrder kinds most (w ∷ ws)
+      go : (b : Bool) → same_line w f ≡ b → cond b (difference_from (suc k) ws fs) (Some k) ≡ None
+          → (difference_from (suc k) ws fs ≡ None → InOrder kinds (depth_after f) ws) → InOrder kinds most (w ∷ ws)
       go true s q ih =
           let e = same_alike w f s in
           (rw e.depth o.0, sayable_like kinds w f e.kind e.number (form 0) o.1, rw (after_like w f e.depth e.kind) (ih q))

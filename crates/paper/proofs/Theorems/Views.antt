@@ -1,12 +1,11 @@
 -- The lines of an edited view in which replies 9 and 10 find no fault, with the marks that count, and the lines that are handed back: both say what their standings say.
 use Rattle.std.proofs.Math.Path.{◌≡◌, refl, sym, ap, subst⁻¹}
 use Rattle.std.proofs.Common.{◌∙◌, arith}
-use Rattle.std.specs.Prelude.{Bool, ◌&&◌, not, eqb, leb, length, drop, get_or}
+use Rattle.std.specs.Prelude.{Bool, ◌&&◌, not, eqb, leb, length, drop, get_or, None, Some}
 use Rattle.std.proofs.Math.Bool.{true, false, cond}
 use mathlib.Core.List.{List, [], ◌∷◌, ◌++◌, append_assoc}
 use Prim.Native.Nat.{ℕ, zero, suc, ◌+◌, ◌<◌}
 use borrow.Author.Tests.{eqb-true, eqb-false, eq-eqb}
-use Rattle.lines.specs.declared.verdict.Verdict.TheVariants.{Fine as Faultless, Fault}
 use Rattle.lines.specs.Nodes.{Line, untouched_mark, changed_mark, deleted_mark, is_element, is_marked, kind_rule, program_number, line_at, no_line}
 use Rattle.lines.specs.Verdicts.{first_from}
 use Rattle.lines.specs.Views.{same_line, difference_from, program_marked, counted_line, counted_lines}
@@ -190,7 +189,7 @@ module _ (G : Ground) where
         fine = λ permit p. (edit_fine G.lines permit x.origin x.depth w e form p.0, r.fine permit p.1);
       }
 
-  pub edited_read : (k j : ℕ) (v : Value) (ws : List Line) → AllNumbering v → difference_from k ws (view G v) ≡ Faultless → first_from program_marked j ws ≡ Faultless
+  pub edited_read : (k j : ℕ) (v : Value) (ws : List Line) → AllNumbering v → difference_from k ws (view G v) ≡ None → first_from program_marked j ws ≡ None
       → ((i : ℕ) → kind_rule (line_at ws i).kind (line_at ws i).mark (line_at ws i).text ≡ true) → Read G v ws
   unfolding difference_from first_from view counted_lines brought
   edited_read k j [] [] n d p form = record { beside = tt; inked = tt; fine = λ permit q. tt }
@@ -201,8 +200,8 @@ module _ (G : Ground) where
       (λ d' p'. edited_read (suc k) (suc j) v ws n.1 d' p' (λ i. form (suc i)))
     where
       go : (a b : Bool) → same_line w (shown_line G.lines x.depth x.origin) ≡ a → program_marked w ≡ b
-          → cond a (difference_from (suc k) ws (view G v)) (Fault k) ≡ Faultless → cond b (Fault j) (first_from program_marked (suc j) ws) ≡ Faultless
-          → (difference_from (suc k) ws (view G v) ≡ Faultless → first_from program_marked (suc j) ws ≡ Faultless → Read G v ws) → Read G (x ∷ v) (w ∷ ws)
+          → cond a (difference_from (suc k) ws (view G v)) (Some k) ≡ None → cond b (Some j) (first_from program_marked (suc j) ws) ≡ None
+          → (difference_from (suc k) ws (view G v) ≡ None → first_from program_marked (suc j) ws ≡ None → Read G v ws) → Read G (x ∷ v) (w ∷ ws)
       go true false s q d p ih = read_line x v w ws n.0 s q (form 0) (ih d p)
       go true true s q d p ih = let z : ◌≡◌ {A = ℕ} 0 1 = cc in absurd (omega arith)
       go false b s q d p ih = let z : ◌≡◌ {A = ℕ} 0 1 = cc in absurd (omega arith)
@@ -230,7 +229,7 @@ handed_inked look permit n l s t m k h f =
     element clash q = (sym t, rw m)
 
 -- from number k on; `s` gives each number the standing at its place
-pub handed_read : (all : List Numbered) (permit : Permit) (s : ℕ → Standing) (most k : ℕ) (ls : List Line) (rs : List Standing) → bounds_from most k ls ≡ Faultless
+pub handed_read : (all : List Numbered) (permit : Permit) (s : ℕ → Standing) (most k : ℕ) (ls : List Line) (rs : List Standing) → bounds_from most k ls ≡ None
     → AllNumbering (whole (numbered_from k ls)) → ((i : ℕ) → i < length ls → line_of all (k + i) ≡ get_or ls i no_line) → ((i : ℕ) → (get_or ls i no_line).mark ≡ untouched_mark)
     → ((i : ℕ) → i < length ls → s (k + i) ≡ standing_at rs i) → FineAlong (lookup_in all) permit (whole (numbered_from k ls)) rs
     → Beside (lookup_in all) (whole (numbered_from k ls)) (lines_in (handed_back s (numbered_from k ls)))
@@ -252,8 +251,8 @@ handed_read all permit s most k (l ∷ ls) rs h n f m g F =
     stands : s k ≡ first_of rs
     stands = ap s here ∙ g 0 (omega arith)
 
-    go : (b : Bool) → placed most k l ≡ b → cond b (bounds_from (depth_after l) (suc k) ls) (Fault k) ≡ Faultless
-        → (bounds_from (depth_after l) (suc k) ls ≡ Faultless
+    go : (b : Bool) → placed most k l ≡ b → cond b (bounds_from (depth_after l) (suc k) ls) (Some k) ≡ None
+        → (bounds_from (depth_after l) (suc k) ls ≡ None
         → Beside (lookup_in all) (whole (numbered_from (suc k) ls)) (lines_in (handed_back s (numbered_from (suc k) ls)))
         × InkedAll (lookup_in all) unlocked_state (whole (numbered_from (suc k) ls)) (lines_in (handed_back s (numbered_from (suc k) ls))) (rest_of rs))
         → Beside (lookup_in all) (whole (numbered_from k (l ∷ ls))) (lines_in (handed_back s (numbered_from k (l ∷ ls))))

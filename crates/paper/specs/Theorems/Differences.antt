@@ -1,7 +1,5 @@
 -- Each difference between the paper and document 01, computed.
-use Rattle.std.specs.Prelude.{◌≡◌, refl, false, List, [], ◌∷◌, map, ℕ, zero, suc}
-use Rattle.lines.specs.declared.verdict.Verdict.{Verdict}
-use Rattle.lines.specs.declared.verdict.Verdict.TheVariants.{Fine, Fault}
+use Rattle.std.specs.Prelude.{◌≡◌, refl, false, List, [], ◌∷◌, map, ℕ, zero, suc, Option, None, Some}
 use Rattle.lines.specs.Entries.{slot_of, text_of}
 use Rattle.lines.specs.Nodes.{Line, changed_mark, is_element, is_marked, hi_lo, lo_hi, is_order, kind_rule}
 use Rattle.lines.specs.Masters.{depth_after, placed, bounds_from, master_bounds, unmarked}
@@ -63,25 +61,25 @@ record Case : Type 0 where
   written : May Sequence  -- the paper's updated source of the view as written, with Fig. 7's guard
   printed : May Sequence  -- of the view with the marks that count, with that guard
   strict : May Sequence  -- with the strict one
-  clash : Verdict  -- the rules' first clash
+  clash : Option ℕ  -- the rules' first clash
   returned : List Line  -- the lines that they hand back
 
 -- all marks count as they are written
-abbrev case : Transformation → List Line → List Line → May Sequence → May Sequence → Verdict → List Line → Case
+abbrev case : Transformation → List Line → List Line → May Sequence → May Sequence → Option ℕ → List Line → Case
 case tree master edited printed strict clash returned =
     record { tree = tree; master = master; edited = edited; written = printed; printed = printed; strict = strict; clash = clash; returned = returned }
 
 -- a line of `one` was saved as it was: the view is accepted by either guard and by the rules
 abbrev saved : Transformation → List Line → May Sequence → May Sequence → List Line → Case
 saved tree edited written accepted returned =
-    record { tree = tree; master = one; edited = edited; written = written; printed = accepted; strict = accepted; clash = Fine; returned = returned }
+    record { tree = tree; master = one; edited = edited; written = written; printed = accepted; strict = accepted; clash = None; returned = returned }
 
 abbrev hi_is : Updating → May Sequence
 hi_is u = got (str hi u (src 0) none)
 
 -- a compared text deleted
 abbrev compared_deleted : Case
-compared_deleted = case asks one (text_line 2 0 hi ∷ []) (hi_is del) fail (Fault 0) one
+compared_deleted = case asks one (text_line 2 0 hi ∷ []) (hi_is del) fail (Some 0) one
 
 -- a compared text marked changed, with its own text: as written Fig. 7 lets it pass as `mod`, but the mark counts as 00
 abbrev compared_same : Case
@@ -93,26 +91,26 @@ saved_copy = saved (beside 0 (source 1) (source 2)) (text_line 1 0 hi ∷ text_l
 
 -- deleted in the copy that was compared: Fig. 7 lets it pass
 abbrev compared_copy : Case
-compared_copy = case asks_beside one (text_line 2 0 hi ∷ text_line 0 0 hi ∷ []) (hi_is del) fail (Fault 0) one
+compared_copy = case asks_beside one (text_line 2 0 hi ∷ text_line 0 0 hi ∷ []) (hi_is del) fail (Some 0) one
 
 -- deleted in the other copy: it does not
 abbrev other_copy : Case
-other_copy = case asks_beside one (text_line 0 0 hi ∷ text_line 2 0 hi ∷ []) fail fail (Fault 0) one
+other_copy = case asks_beside one (text_line 0 0 hi ∷ text_line 2 0 hi ∷ []) fail fail (Some 0) one
 
 -- `non` stays in the paper's result
 abbrev non_left : Case
-non_left = case asks one one (hi_is non) (hi_is non) Fine one
+non_left = case asks one one (hi_is non) (hi_is non) None one
 
 -- two conflicts: `fail` has no place, the clash is that of the least number
 abbrev two_conflicts : Case
 two_conflicts =
-    case (beside 0 (source 1) (source 2)) two (text_line 1 0 lo ∷ text_line 2 1 hi ∷ text_line 2 0 hi ∷ text_line 1 1 lo ∷ []) fail fail (Fault 0) two
+    case (beside 0 (source 1) (source 2)) two (text_line 1 0 lo ∷ text_line 2 1 hi ∷ text_line 2 0 hi ∷ text_line 1 1 lo ∷ []) fail fail (Some 0) two
 
 abbrev cases : List Case
 cases = compared_deleted ∷ compared_same ∷ saved_copy ∷ compared_copy ∷ other_copy ∷ non_left ∷ two_conflicts ∷ []
 
 abbrev Outcome : Type 0
-Outcome = May Sequence × May Sequence × May Sequence × Verdict × List Line
+Outcome = May Sequence × May Sequence × May Sequence × Option ℕ × List Line
 
 outcome : Case → Outcome
 outcome c =
@@ -136,10 +134,10 @@ all_put = refl
 record Kept : Type 0 where
   tree : Transformation
   edited : List Line
-  nine : Verdict
-  ten : Verdict
+  nine : Option ℕ
+  ten : Option ℕ
 
-abbrev kept : Transformation → List Line → Verdict → Verdict → Kept
+abbrev kept : Transformation → List Line → Option ℕ → Option ℕ → Kept
 kept tree edited nine ten = record { tree = tree; edited = edited; nine = nine; ten = ten }
 
 -- a tag
@@ -155,14 +153,14 @@ boxed t = boxed_at 0 t
 
 abbrev kept_back : List Kept
 kept_back =
-    kept (text 0 hi) (text_line 2 0xFFFF hi ∷ []) Fine (Fault 0) ∷  -- xconst: its text deleted,
-    kept (text 0 hi) (text_line 1 0xFFFF lo ∷ []) Fine (Fault 0) ∷  -- changed,
-    kept (text 0 hi) (text_line 0 0xFFFF lo ∷ []) (Fault 0) Fine ∷  -- or another
-    kept (within 0 (source 1)) (boxed lo) (Fault 0) Fine ∷  -- xsetcnt: another tag
-    kept (beside 0 (source 1) (source 2)) (boxed d) (Fault 2) Fine ∷  -- split: an item too few
+    kept (text 0 hi) (text_line 2 0xFFFF hi ∷ []) None (Some 0) ∷  -- xconst: its text deleted,
+    kept (text 0 hi) (text_line 1 0xFFFF lo ∷ []) None (Some 0) ∷  -- changed,
+    kept (text 0 hi) (text_line 0 0xFFFF lo ∷ []) (Some 0) None ∷  -- or another
+    kept (within 0 (source 1)) (boxed lo) (Some 0) None ∷  -- xsetcnt: another tag
+    kept (beside 0 (source 1) (source 2)) (boxed d) (Some 2) None ∷  -- split: an item too few
     []
 
-judged : Kept → May Sequence × Verdict × Verdict
+judged : Kept → May Sequence × Option ℕ × Option ℕ
 judged c = (
   put_back_by guard c.tree (boxed d) c.edited >>= λ r. got r.0,
   first_difference c.edited (fresh_of c.tree (boxed d)),
@@ -182,9 +180,9 @@ record Passed : Type 0 where
   master : List Line
   edited : List Line
   printed : May Sequence  -- with either guard
-  nine : Verdict
+  nine : Option ℕ
 
-abbrev passed : Transformation → List Line → List Line → May Sequence → Verdict → Passed
+abbrev passed : Transformation → List Line → List Line → May Sequence → Option ℕ → Passed
 passed tree master edited printed nine = record { tree = tree; master = master; edited = edited; printed = printed; nine = nine }
 
 -- the paper's `boxed d`, with this mark and these contents
@@ -201,21 +199,21 @@ from_slot_twice = bind 0 7 (beside 1 (slot 2 7) (slot 3 7))
 
 abbrev let_pass : List Passed
 let_pass =
-    passed (source 0) one (text_line 0 0 lo ∷ []) (got (str lo ori (src 0) none)) (Fault 0) ∷  -- xid: a text changed without a mark,
-    passed (source 0) one [] (got none) (Fault 0) ∷  -- a line left out,
-    passed (source 0) one (text_line 0 0 hi ∷ text_line 0 1 lo ∷ []) (got (str hi ori (src 0) (str lo ori (src 1) none))) (Fault 1) ∷  -- a line added
-    passed (contents 0) (boxed d) (text_line 0 1 lo ∷ []) (box_of ori_e (str lo ori (src 1) none)) (Fault 0) ∷  -- xchild: the same three
-    passed (contents 0) (boxed d) [] (box_of ori_e none) (Fault 0) ∷
-    passed (contents 0) (boxed d) (text_line 0 1 hi ∷ text_line 0 2 lo ∷ []) (box_of ori_e (str hi ori (src 1) (str lo ori (src 2) none))) (Fault 1) ∷
-    passed from_slot one (text_line 0 0 lo ∷ []) fail (Fault 0) ∷  -- xvar: `mg` fails on these,
-    passed from_slot one [] fail (Fault 0) ∷
-    passed from_slot one (text_line 0 0 hi ∷ text_line 0 1 lo ∷ []) fail (Fault 1) ∷
-    passed from_slot_twice one (text_line 0 0 [] ∷ text_line 1 0 lo ∷ []) (got (str lo mod' (src 0) none)) (Fault 0) ∷  -- but not if the other copy is marked changed
-    passed from_slot one (text_line 0 1 hi ∷ []) (hi_is ori) (Fault 0) ∷  -- `mg` and xsetcnt: another number
-    passed (within 0 (source 1)) (boxed d) (boxed_at 5 d) (box_of ori_e (str hi ori (src 1) none)) (Fault 0) ∷
+    passed (source 0) one (text_line 0 0 lo ∷ []) (got (str lo ori (src 0) none)) (Some 0) ∷  -- xid: a text changed without a mark,
+    passed (source 0) one [] (got none) (Some 0) ∷  -- a line left out,
+    passed (source 0) one (text_line 0 0 hi ∷ text_line 0 1 lo ∷ []) (got (str hi ori (src 0) (str lo ori (src 1) none))) (Some 1) ∷  -- a line added
+    passed (contents 0) (boxed d) (text_line 0 1 lo ∷ []) (box_of ori_e (str lo ori (src 1) none)) (Some 0) ∷  -- xchild: the same three
+    passed (contents 0) (boxed d) [] (box_of ori_e none) (Some 0) ∷
+    passed (contents 0) (boxed d) (text_line 0 1 hi ∷ text_line 0 2 lo ∷ []) (box_of ori_e (str hi ori (src 1) (str lo ori (src 2) none))) (Some 1) ∷
+    passed from_slot one (text_line 0 0 lo ∷ []) fail (Some 0) ∷  -- xvar: `mg` fails on these,
+    passed from_slot one [] fail (Some 0) ∷
+    passed from_slot one (text_line 0 0 hi ∷ text_line 0 1 lo ∷ []) fail (Some 1) ∷
+    passed from_slot_twice one (text_line 0 0 [] ∷ text_line 1 0 lo ∷ []) (got (str lo mod' (src 0) none)) (Some 0) ∷  -- but not if the other copy is marked changed
+    passed from_slot one (text_line 0 1 hi ∷ []) (hi_is ori) (Some 0) ∷  -- `mg` and xsetcnt: another number
+    passed (within 0 (source 1)) (boxed d) (boxed_at 5 d) (box_of ori_e (str hi ori (src 1) none)) (Some 0) ∷
     []
 
-let_through : Passed → May Sequence × May Sequence × Verdict
+let_through : Passed → May Sequence × May Sequence × Option ℕ
 let_through c = (
   put_back_by guard c.tree c.master c.edited >>= λ r. got r.0,
   put_back_by strict_guard c.tree c.master c.edited >>= λ r. got r.0,
@@ -235,9 +233,9 @@ record Marked : Type 0 where
   master : List Line
   edited : List Line
   printed : May Sequence  -- with either guard
-  five : Verdict
+  five : Option ℕ
 
-abbrev marked : Transformation → List Line → List Line → May Sequence → Verdict → Marked
+abbrev marked : Transformation → List Line → List Line → May Sequence → Option ℕ → Marked
 marked tree master edited printed five = record { tree = tree; master = master; edited = edited; printed = printed; five = five }
 
 -- a text that is deleted already
@@ -250,14 +248,14 @@ gone_box = record { depth = 0; kind = 2; mark = 2; number = 0; text = d } ∷ re
 
 abbrev marked_masters : List Marked
 marked_masters =
-    marked (source 0) gone gone (hi_is del) (Fault 0) ∷  -- xid: the mark is the view's,
-    marked (source 0) gone one (hi_is ori) (Fault 0) ∷  -- so it can be taken away
-    marked (contents 0) gone_box (text_line 1 1 lo ∷ []) (box_of del_e (str lo mod' (src 1) none)) (Fault 0) ∷  -- xchild: the element's mark stays
-    marked from_slot gone gone (hi_is del) (Fault 0) ∷  -- xvar: so does a text's,
-    marked from_slot gone one (hi_is del) (Fault 0) ∷  -- taken away in the view or not
+    marked (source 0) gone gone (hi_is del) (Some 0) ∷  -- xid: the mark is the view's,
+    marked (source 0) gone one (hi_is ori) (Some 0) ∷  -- so it can be taken away
+    marked (contents 0) gone_box (text_line 1 1 lo ∷ []) (box_of del_e (str lo mod' (src 1) none)) (Some 0) ∷  -- xchild: the element's mark stays
+    marked from_slot gone gone (hi_is del) (Some 0) ∷  -- xvar: so does a text's,
+    marked from_slot gone one (hi_is del) (Some 0) ∷  -- taken away in the view or not
     []
 
-put_into : Marked → May Sequence × May Sequence × Verdict
+put_into : Marked → May Sequence × May Sequence × Option ℕ
 put_into c = (
   put_back_by guard c.tree c.master c.edited >>= λ r. got r.0,
   put_back_by strict_guard c.tree c.master c.edited >>= λ r. got r.0,
@@ -302,7 +300,7 @@ texts : ℕ → ℕ → List Line
 texts zero number = []
 texts (suc n) number = text_line 0 number hi ∷ texts n (suc number)
 
-over_128 : (master_bounds (texts 65 0) ≡ Fine)
+over_128 : (master_bounds (texts 65 0) ≡ None)
     × ((forward (in_paper (beside 0 (source 1) (source 2))) [] (sequence (texts 65 0)) >>= λ T. got (len T)) ≡ got 130)
     × (showing (one_master (texts 65 0)) (beside 0 (source 1) (source 2)) ≡ stops (Size 0))
 unfolding texts master_bounds bounds_from placed depth_after forward worded sequence items_at showing numbered_from line_of whole show in_turn is_element

@@ -1,6 +1,5 @@
 -- The paper's own examples, computed: of section 3.4 `split` and `mg`; both ways, in the paper and by the rules, that of section 3.5 and the bibview of section 4.2.1.
-use Rattle.std.specs.Prelude.{◌≡◌, refl, List, [], ◌∷◌, ℕ}
-use Rattle.lines.specs.declared.verdict.Verdict.TheVariants.{Fine, Fault}
+use Rattle.std.specs.Prelude.{◌≡◌, refl, List, [], ◌∷◌, ℕ, None, Some}
 use Rattle.lines.specs.Entries.{Entry, slot_of, text_of}
 use Rattle.lines.specs.Nodes.{Line, is_element}
 use Rattle.lines.specs.Texts.{same_text, kept_before, trimmed, agree}
@@ -214,9 +213,9 @@ unfolding view shown_line numbered_from line_of whole showing show value_in one_
 shown_by_the_rules = (refl, refl)
 
 -- both edits of 10 are a clash of node 0; the edited title is handed back as the paper has it
-by_the_rules : (clash_of tens one_ten (line 0 1 1 0 eleven ∷ line 0 1 0 0 ten ∷ []) ≡ Fault 0)
-    × (clash_of tens one_ten (line 0 1 0 0 ten ∷ line 0 1 1 0 eleven ∷ []) ≡ Fault 0)
-    × (clash_of bib_tree books (bib_lines 1 web_database (book_lines 0 database)) ≡ Fine)
+by_the_rules : (clash_of tens one_ten (line 0 1 1 0 eleven ∷ line 0 1 0 0 ten ∷ []) ≡ Some 0)
+    × (clash_of tens one_ten (line 0 1 0 0 ten ∷ line 0 1 1 0 eleven ∷ []) ≡ Some 0)
+    × (clash_of bib_tree books (bib_lines 1 web_database (book_lines 0 database)) ≡ None)
     × (handed_back_by bib_tree books (bib_lines 1 web_database (book_lines 0 database)) ≡ line 0 2 0 0 bib ∷ book_lines 1 web_database)
 unfolding first_clash standing_for standing brought brings says mark_counted handed_back lines_in numbered_from line_of whole showing show put_back
     value_in one_top one_element one_text bounded in_turn verdict merged_into untouched_slots gathered_slots value_of says_yes inside

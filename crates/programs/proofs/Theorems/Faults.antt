@@ -1,5 +1,5 @@
 -- The first fault of a program: reading stops there, and nowhere else.
-use Rattle.std.specs.Prelude.{◌≡◌, ◌⊎◌, ◌↔◌, Bool, leb, eqb}
+use Rattle.std.specs.Prelude.{◌≡◌, ◌⊎◌, ◌↔◌, Bool, leb, eqb, Ok}
 use Rattle.std.proofs.Math.Path.{refl, ap, subst}
 use Rattle.std.proofs.Common.{sym, ◌∙◌, inl, inr, arith}
 use Rattle.std.proofs.Math.Bool.{true, false}
@@ -8,10 +8,9 @@ use Prim.Native.Nat.{ℕ, suc, ◌+◌, ◌≤◌, zero, ◌<◌}
 use Rattle.std.proofs.Math.Dec.{ltb}
 use Rattle.std.proofs.Math.ListN.{length}
 use borrow.Author.Tests.{eqb-true, ltb-true, ltb-false, leb-false}
-use Rattle.lines.specs.Entries.{Entry, slot_of, rows, row_of, class_of}
+use Rattle.lines.specs.Entries.{Entry, slot_of, rows, row_of, subs_of, class_of}
 use Rattle.lines.specs.Entries.{entries as entriesIn}
 use Rattle.lines.specs.declared.scan.File.TheVariants.{Program}
-use Rattle.lines.specs.declared.scan.Scan.TheVariants.{Lines}
 use Rattle.lines.specs.Files.{scan}
 use Rattle.runs.specs.Results.{gives, Result, stops, ◌>>=◌, ◌>>◌, ensure}
 use Rattle.runs.specs.Programs.{Transformation, source, Test, is_element, equals, nothing, text, tag, slot, contents, within, and_then, beside, each}
@@ -90,7 +89,7 @@ module _ (entries : List Entry) where
           (two_upto y z h.2 h.3 (p + length x) a.1.0 a.1.1.0) (next_ahead 2))
       below_upto c (x ∷ y ∷ z ∷ w ∷ ws) h p a = absurd h
 
-    node_upto : (asked : Bool) (b : ℕ) (o : List ℕ) (q : ℕ) (subs : List (List Sight)) → Shaped (entry b o) → stands asked (class_of b) ≡ true → ReadsBelow (row_of b).1 subs
+    node_upto : (asked : Bool) (b : ℕ) (o : List ℕ) (q : ℕ) (subs : List (List Sight)) → Shaped (entry b o) → stands asked (class_of b) ≡ true → ReadsBelow (subs_of b) subs
         → Reads asked (sights_from q (entry b o) subs)
     unfolding end_at
     node_upto asked b o q subs sh st h zero d room p l a = go (ltb p n) refl
@@ -108,7 +107,7 @@ module _ (entries : List Entry) where
             let r = opens (entry b o) p d room sh g.1 in
             let s = step_of (entry b o) p d room sh r.0 r.1 in
             subst (λ (z : ℕ). Upto z (end_at entries (suc k) room asked p)) (sym (sights_past q (entry b o) subs p))
-            (rw (en, r.1, st) (below_upto k (suc d) r.0 (omega arith) (row_of b).1 subs h (suc p) (to_below entries n d room r.0 (entry b o) s subs (suc p) a.1)))
+            (rw (en, r.1, st) (below_upto k (suc d) r.0 (omega arith) (subs_of b) subs h (suc p) (to_below entries n d room r.0 (entry b o) s subs (suc p) a.1)))
 
     mutual
       unfolding fold stands class_of row_of rows slot_of
@@ -208,5 +207,5 @@ module _ (entries : List Entry) where
       go (gives X) e = absurd (f.unsound X (program_sound entries X formed e))
       go (stops q) e = ap stops (one_fault q p (stops_first formed q e) f)
 
-pub file_fault : (s : List ℕ) (n : ℕ) → scan Program s ≡ Lines n → (p : ℕ) → (read_program (entriesIn s) ≡ stops p) ↔ FirstFault (entriesIn s) p
+pub file_fault : (s : List ℕ) (n : ℕ) → scan Program s ≡ Ok n → (p : ℕ) → (read_program (entriesIn s) ≡ stops p) ↔ FirstFault (entriesIn s) p
 file_fault s n e p = (stops_first (entriesIn s) (scanned_formed s n e) p, first_stops (entriesIn s) (scanned_formed s n e) p)

@@ -3,7 +3,7 @@ use Rattle.std.specs.Prelude.{◌≡◌, refl, ◌⊎◌, Bool, true, ℕ, suc, 
 use Rattle.std.proofs.Common.{inl, inr}
 use mathlib.Core.List.Memᴰ
 use mathlib.Core.List.{List, [], ◌∷◌, ◌++◌, map, flatten}
-use Rattle.lines.specs.Entries.{Entry, slot_of, rows, row_of, operand_form, text_of}
+use Rattle.lines.specs.Entries.{Entry, slot_of, rows, row_of, operand_shape, operand_form, text_of}
 use Rattle.values.specs.Values.{among}
 use Rattle.runs.specs.Results.{stops}
 use Rattle.runs.specs.Programs.{Transformation, source, contents, within, and_then, each}
@@ -31,7 +31,7 @@ p_ways = refl
 -- ## Example 11
 
 abbrev form_of : Entry → Bool
-form_of e = operand_form (row_of e.operation).0 e.operand
+form_of e = operand_form (operand_shape e.operation) e.operand
 
 formed_so : (es : List Entry) → map form_of es ≡ map (λ e. true) es → Formed es
 formed_so [] h e m = absurd (Memᴰ.not-nil m)

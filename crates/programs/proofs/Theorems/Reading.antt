@@ -1,13 +1,12 @@
 -- A program is read as the tree X exactly if it is the sound program X; it is refused by reply 3 exactly if there is no such tree.
-use Rattle.std.specs.Prelude.{◌≡◌, refl, ◌⊎◌, ◌↔◌, Bool, true, false, cond, ◌&&◌, List, [], ◌∷◌, map, ℕ, suc, ◌+◌, leb, ltb, length}
+use Rattle.std.specs.Prelude.{◌≡◌, refl, ◌⊎◌, ◌↔◌, Bool, true, false, cond, ◌&&◌, List, [], ◌∷◌, map, ℕ, suc, ◌+◌, leb, ltb, length, Ok, Err}
 use Rattle.std.proofs.Common.{sym, ap, ◌∙◌, inl, inr, arith, take_all, leb-true}
 use mathlib.Core.List.Memᴰ
 use Rattle.std.proofs.lemmas.List.{length-map}
-use Rattle.lines.specs.Entries.{Entry, row_of, operand_form, entry_form, entry_line, entry_of}
+use Rattle.lines.specs.Entries.{Entry, operand_shape, operand_form, entry_form, entry_line, entry_of}
 use Rattle.lines.specs.Entries.{entries as entriesIn}
 use Rattle.lines.specs.Theorems.Bools.{and_right}
 use Rattle.lines.specs.declared.scan.File.TheVariants.{Program}
-use Rattle.lines.specs.declared.scan.Scan.TheVariants.{Lines, Wrong}
 use Rattle.lines.specs.Files.{scan, form_of, limit_of, scan_from}
 use Rattle.lines.specs.Hex.{decode}
 use Rattle.lines.specs.Lines.{cut, is_line}
@@ -77,23 +76,23 @@ unsound_refused entries formed none = go (read_program entries) refl
 
 -- ## Files that reply 2 lets pass
 
-lines_formed : (limit k n : ℕ) (cs : List (List ℕ)) → scan_from entry_line limit k cs ≡ Lines n → Formed (map (λ c. entry_of (decode c)) cs)
+lines_formed : (limit k n : ℕ) (cs : List (List ℕ)) → scan_from entry_line limit k cs ≡ Ok n → Formed (map (λ c. entry_of (decode c)) cs)
 unfolding scan_from entry_line entry_form
 lines_formed limit k n [] h e m = absurd (Memᴰ.not-nil m)
 lines_formed limit k n (c ∷ cs) h e m = go (ltb k limit) (entry_line c) refl h (Memᴰ.cases_cons m) (λ g j. lines_formed limit (suc k) n cs g e j)
   where
-    go : (t u : Bool) → entry_line c ≡ u → cond (t && u) (scan_from entry_line limit (suc k) cs) (Wrong k) ≡ Lines n
+    go : (t u : Bool) → entry_line c ≡ u → cond (t && u) (scan_from entry_line limit (suc k) cs) (Err k) ≡ Ok n
         → (e ≡ entry_of (decode c)) ⊎ (e ∈ map (λ c. entry_of (decode c)) cs)
-        → (scan_from entry_line limit (suc k) cs ≡ Lines n → e ∈ map (λ c. entry_of (decode c)) cs → operand_form (row_of e.operation).0 e.operand ≡ true)
-        → operand_form (row_of e.operation).0 e.operand ≡ true
+        → (scan_from entry_line limit (suc k) cs ≡ Ok n → e ∈ map (λ c. entry_of (decode c)) cs → operand_form (operand_shape e.operation) e.operand ≡ true)
+        → operand_form (operand_shape e.operation) e.operand ≡ true
     go true true f g (inl q) rest = rw q (and_right (is_line c) _ f)
     go true true f g (inr j) rest = rest g j
     go true false f g j rest = absurd (let z : ◌≡◌ {A = ℕ} 0 1 = cc in omega arith)
     go false u f g j rest = absurd (let z : ◌≡◌ {A = ℕ} 0 1 = cc in omega arith)
 
-pub scanned_formed : (s : List ℕ) (n : ℕ) → scan Program s ≡ Lines n → Formed (entriesIn s)
+pub scanned_formed : (s : List ℕ) (n : ℕ) → scan Program s ≡ Ok n → Formed (entriesIn s)
 unfolding scan form_of entriesIn
 scanned_formed s n e = lines_formed (limit_of Program) 0 n (cut s) e
 
-pub file_sound : (s : List ℕ) (n : ℕ) → scan Program s ≡ Lines n → (X : Transformation) → (read_program (entriesIn s) ≡ gives X) ↔ SoundProgram (entriesIn s) X
+pub file_sound : (s : List ℕ) (n : ℕ) → scan Program s ≡ Ok n → (X : Transformation) → (read_program (entriesIn s) ≡ gives X) ↔ SoundProgram (entriesIn s) X
 file_sound s n e X = (program_sound (entriesIn s) X (scanned_formed s n e), sound_program (entriesIn s) X)

@@ -1,10 +1,10 @@
 -- What reading builds: a tree whose entries are there, each with a way that keeps the room; and so up to where it stops.
-use Rattle.std.specs.Prelude.{◌≡◌, ℕ, suc, ◌+◌, ◌≤◌, zero, length}
+use Rattle.std.specs.Prelude.{◌≡◌, ℕ, suc, ◌+◌, ◌≤◌, zero, length, Some}
 use Rattle.std.proofs.Math.Path.{refl, ap}
 use Rattle.std.proofs.Common.{sym, ◌∙◌, subst, eqb-true}
 use mathlib.Core.List.{List, [], ◌∷◌, ◌++◌}
 use native.Mathlib.Omega.{arith}
-use Rattle.lines.specs.Entries.{Entry, slot_of, rows, row_of, text_of}
+use Rattle.lines.specs.Entries.{Entry, slot_of, rows, row_of, operand_shape, text_of}
 use Rattle.lines.specs.declared.table.Shape.TheVariants.{Nothing, Text, Tag, Slot}
 use Rattle.runs.specs.Results.{gives, Result, stops, ◌>>=◌}
 use Rattle.runs.specs.Programs.{Transformation, source, Test, is_element}
@@ -139,19 +139,19 @@ module _ (entries : List Entry) (formed : Formed entries) where
     same_sights : (e : Entry) → ◌≡◌ {A = Placing} (p, e) (p, entry_at entries p) → (subs : List (List Sight)) → sights_from p e subs ≡ sights_at entries p subs
     same_sights e h subs = ap (λ (l : Placing). sights_from l.0 l.1 subs) h
 
-    plain_sights : (b : ℕ) → (row_of b).0 ≡ Nothing → (0 ≡ b → ⊥) → (entry_at entries p).operation ≡ b → (subs : List (List Sight))
+    plain_sights : (b : ℕ) → operand_shape b ≡ Some Nothing → (0 ≡ b → ⊥) → (entry_at entries p).operation ≡ b → (subs : List (List Sight))
         → sights_from p (entry b []) subs ≡ sights_at entries p subs
     plain_sights b r some o = same_sights (entry b []) (plain_line entries formed b p p r some (refl, o))
 
-    slot_is : (b : ℕ) → (row_of b).0 ≡ Slot → (0 ≡ b → ⊥) → (entry_at entries p).operation ≡ b
+    slot_is : (b : ℕ) → operand_shape b ≡ Some Slot → (0 ≡ b → ⊥) → (entry_at entries p).operation ≡ b
         → ◌≡◌ {A = Placing} (p, entry b (slot_of (entry_at entries p) ∷ [])) (p, entry_at entries p)
     slot_is b r some o = slot_line entries formed b p p (slot_of (entry_at entries p)) r some (refl, o) refl
 
-    text_is : (b : ℕ) → (row_of b).0 ≡ Text → (0 ≡ b → ⊥) → (entry_at entries p).operation ≡ b
+    text_is : (b : ℕ) → operand_shape b ≡ Some Text → (0 ≡ b → ⊥) → (entry_at entries p).operation ≡ b
         → ◌≡◌ {A = Placing} (p, entry b (length (text_of (entry_at entries p)) ∷ text_of (entry_at entries p))) (p, entry_at entries p)
-    text_is b r some o = text_line entries formed b p p (text_of (entry_at entries p)) (shape_of entries formed Text b p p r some (refl, o)) (refl, o) refl
+    text_is b r some o = text_line entries formed b p p (text_of (entry_at entries p)) (shape_of entries formed (Some Text) b p p r some (refl, o)) (refl, o) refl
 
-    tag_is : (b : ℕ) → (row_of b).0 ≡ Tag → (0 ≡ b → ⊥) → (entry_at entries p).operation ≡ b
+    tag_is : (b : ℕ) → operand_shape b ≡ Some Tag → (0 ≡ b → ⊥) → (entry_at entries p).operation ≡ b
         → ◌≡◌ {A = Placing} (p, entry b (length (text_of (entry_at entries p)) ∷ text_of (entry_at entries p))) (p, entry_at entries p)
     tag_is b r some o = tag_line entries formed b p p (text_of (entry_at entries p)) r some (refl, o) refl
 

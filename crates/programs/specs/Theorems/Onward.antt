@@ -1,12 +1,11 @@
 -- Reading without the tree goes on from place to place, and never past the end; where it stops for room, it stops at that entry.
-use Rattle.std.specs.Prelude.{◌≡◌, Bool, cond, List, leb, eqb, length}
+use Rattle.std.specs.Prelude.{◌≡◌, Bool, cond, List, leb, eqb, length, None}
 use Rattle.std.proofs.Math.Path.{refl}
 use Rattle.std.proofs.Common.{sym, ap, ◌∙◌, subst}
 use Rattle.std.proofs.Math.Bool.{true, false}
 use Prim.Native.Nat.{ℕ, suc, ◌≤◌, zero}
 use native.Mathlib.Omega.{arith}
-use Rattle.lines.specs.Entries.{Entry, slot_of, row_of, class_of}
-use Rattle.lines.specs.declared.table.Class.TheVariants.{Unknown}
+use Rattle.lines.specs.Entries.{Entry, slot_of, subs_of, class_of}
 use Rattle.values.specs.Values.{among}
 use Rattle.runs.specs.Results.{gives, Result, stops, ◌>>=◌, ◌>>◌, ensure}
 use Rattle.runs.specs.Programs.{Transformation}
@@ -44,7 +43,7 @@ below_place e p s room = go (eqb e.operation 0x0A) (eqb e.operation 0x0C) (eqb e
     go false false true = ensure_place (among (slot_of e) room.slots) p s room
     go false false false = λ h. let z : ◌≡◌ {A = ℕ} 0 1 = cc in absurd (omega arith)
 
-no_unknown : (asked : Bool) → stands asked Unknown ≡ true → ⊥
+no_unknown : (asked : Bool) → stands asked None ≡ true → ⊥
 unfolding stands
 no_unknown true h = let z : ◌≡◌ {A = ℕ} 0 1 = cc in omega arith
 no_unknown false h = let z : ◌≡◌ {A = ℕ} 0 1 = cc in omega arith
@@ -87,11 +86,11 @@ module _ (entries : List Entry) where
   end_ahead (suc k) room asked p =
       let b = (entry_at entries p).operation in
       after (AheadOf p) (below (entry_at entries p) p room) _
-      (λ inner _. let rest = end_below (end_at entries k inner false) (end_at entries k inner true) (row_of b).1 (suc p) in
+      (λ inner _. let rest = end_below (end_at entries k inner false) (end_at entries k inner true) (subs_of b) (suc p) in
       after_ensure (AheadOf p) (stands asked (class_of b)) p rest
       (λ t. let w = head_within entries b p (λ z. no_unknown asked (subst (λ (c : ℕ). stands asked (class_of c) ≡ true) (sym z) t)) refl in
       ahead_trans p (suc p) rest (omega arith, λ l. omega arith)
-      (below_ahead (end_at entries k inner false) (end_at entries k inner true) (end_ahead k inner false) (end_ahead k inner true) (row_of b).1 (suc p)))
+      (below_ahead (end_at entries k inner false) (end_at entries k inner true) (end_ahead k inner false) (end_ahead k inner true) (subs_of b) (suc p)))
       (omega arith, λ l. l))
       (λ s e. let z = below_place (entry_at entries p) p s room e in (omega arith, λ l. omega arith))
 

@@ -1,5 +1,5 @@
 -- A tree whose lines in prefix order are those of a file stands there; and what the lines are if the entries have their form.
-use Rattle.std.specs.Prelude.{◌≡◌, refl, true, leb}
+use Rattle.std.specs.Prelude.{◌≡◌, refl, true, leb, Option, Some}
 use Rattle.std.proofs.Common.{sym, subst, drop_of_length-le, drop-cons, eqb-true}
 use Rattle.std.proofs.Math.Path.{ap}
 use mathlib.Core.List.Memᴰ
@@ -7,7 +7,7 @@ use mathlib.Core.List.{List, [], ◌∷◌, ◌++◌, flatten, append-nil}
 use Prim.Native.Nat.{ℕ, suc, ◌+◌, ◌≤◌, zero, ◌<◌}
 use native.Mathlib.Omega.{arith}
 use Rattle.std.proofs.Math.ListN.{length, get_or, drop}
-use Rattle.lines.specs.Entries.{Entry, slot_of, row_of, text_form, operand_form, text_of}
+use Rattle.lines.specs.Entries.{Entry, slot_of, operand_shape, text_form, operand_form, text_of}
 use Rattle.lines.specs.Theorems.Bools.{and_left, and_right}
 use Rattle.lines.specs.declared.table.Shape.{Shape}
 use Rattle.lines.specs.declared.table.Shape.TheVariants.{Nothing, Text, Tag, Slot}
@@ -106,12 +106,12 @@ module _ (entries : List Entry) where
 
 -- ## Operands of the right form
 
-nothing_operand : (o : List ℕ) → operand_form Nothing o ≡ true → o ≡ []
+nothing_operand : (o : List ℕ) → operand_form (Some Nothing) o ≡ true → o ≡ []
 unfolding operand_form
 nothing_operand [] h = refl
 nothing_operand (x ∷ o) h = let l = eqb-true (suc (length o)) 0 h in absurd (omega arith)
 
-slot_operand : (o : List ℕ) → operand_form Slot o ≡ true → o ≡ get_or o 0 0 ∷ []
+slot_operand : (o : List ℕ) → operand_form (Some Slot) o ≡ true → o ≡ get_or o 0 0 ∷ []
 unfolding operand_form
 slot_operand [] h = let l = eqb-true 0 1 h in absurd (omega arith)
 slot_operand (x ∷ []) h = refl
@@ -125,7 +125,7 @@ text_operand (x ∷ o) h =
     let z : x ≡ length o = omega arith in
     rw z
 
-tag_text : (o : List ℕ) → operand_form Tag o ≡ true → operand_form Text o ≡ true
+tag_text : (o : List ℕ) → operand_form (Some Tag) o ≡ true → operand_form (Some Text) o ≡ true
 unfolding operand_form
 tag_text o h = and_left (text_form o) (is_tag (drop 1 o)) h
 
@@ -143,24 +143,24 @@ module _ (entries : List Entry) (formed : Formed entries) where
   line_is b e p o h k = rw (h.0, ← h.1, ← k)
 
   -- an operand has the shape of its row
-  pub shape_of : (shape : Shape) (b e p : ℕ) → (row_of b).0 ≡ shape → (0 ≡ b → ⊥) → Head entries b e p → operand_form shape (entry_at entries p).operand ≡ true
+  pub shape_of : (shape : Option Shape) (b e p : ℕ) → operand_shape b ≡ shape → (0 ≡ b → ⊥) → Head entries b e p → operand_form shape (entry_at entries p).operand ≡ true
   shape_of shape b e p r some h =
-      rw r at (subst (λ (c : ℕ). operand_form (row_of c).0 (entry_at entries p).operand ≡ true) h.1
+      rw r at (subst (λ (c : ℕ). operand_form (operand_shape c) (entry_at entries p).operand ≡ true) h.1
       (formed (entry_at entries p) (get_d_in entries p no_entry (head_within entries b p some h.1))))
 
-  pub plain_line : (b e p : ℕ) → (row_of b).0 ≡ Nothing → (0 ≡ b → ⊥) → Head entries b e p → ◌≡◌ {A = Placing} (e, entry b []) (p, entry_at entries p)
-  plain_line b e p r some h = line_is b e p [] h (nothing_operand (entry_at entries p).operand (shape_of Nothing b e p r some h))
+  pub plain_line : (b e p : ℕ) → operand_shape b ≡ Some Nothing → (0 ≡ b → ⊥) → Head entries b e p → ◌≡◌ {A = Placing} (e, entry b []) (p, entry_at entries p)
+  plain_line b e p r some h = line_is b e p [] h (nothing_operand (entry_at entries p).operand (shape_of (Some Nothing) b e p r some h))
 
-  pub slot_line : (b e p k : ℕ) → (row_of b).0 ≡ Slot → (0 ≡ b → ⊥) → Head entries b e p → k ≡ slot_of (entry_at entries p)
+  pub slot_line : (b e p k : ℕ) → operand_shape b ≡ Some Slot → (0 ≡ b → ⊥) → Head entries b e p → k ≡ slot_of (entry_at entries p)
       → ◌≡◌ {A = Placing} (e, entry b (k ∷ [])) (p, entry_at entries p)
   unfolding slot_of
-  slot_line b e p k r some h s = line_is b e p (k ∷ []) h (rw s (slot_operand (entry_at entries p).operand (shape_of Slot b e p r some h)))
+  slot_line b e p k r some h s = line_is b e p (k ∷ []) h (rw s (slot_operand (entry_at entries p).operand (shape_of (Some Slot) b e p r some h)))
 
-  pub text_line : (b e p : ℕ) (t : List ℕ) → operand_form Text (entry_at entries p).operand ≡ true → Head entries b e p → t ≡ text_of (entry_at entries p)
+  pub text_line : (b e p : ℕ) (t : List ℕ) → operand_form (Some Text) (entry_at entries p).operand ≡ true → Head entries b e p → t ≡ text_of (entry_at entries p)
       → ◌≡◌ {A = Placing} (e, entry b (length t ∷ t)) (p, entry_at entries p)
   unfolding operand_form text_of
   text_line b e p t f h s = line_is b e p (length t ∷ t) h (rw s (text_operand (entry_at entries p).operand f))
 
-  pub tag_line : (b e p : ℕ) (t : List ℕ) → (row_of b).0 ≡ Tag → (0 ≡ b → ⊥) → Head entries b e p → t ≡ text_of (entry_at entries p)
+  pub tag_line : (b e p : ℕ) (t : List ℕ) → operand_shape b ≡ Some Tag → (0 ≡ b → ⊥) → Head entries b e p → t ≡ text_of (entry_at entries p)
       → ◌≡◌ {A = Placing} (e, entry b (length t ∷ t)) (p, entry_at entries p)
-  tag_line b e p t r some h = text_line b e p t (tag_text (entry_at entries p).operand (shape_of Tag b e p r some h)) h
+  tag_line b e p t r some h = text_line b e p t (tag_text (entry_at entries p).operand (shape_of (Some Tag) b e p r some h)) h

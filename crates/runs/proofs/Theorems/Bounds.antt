@@ -1,11 +1,10 @@
 -- What is shown is within the bounds and a sequence of trees, if the source and the slots are; and a master is, if the line layer finds no fault in it.
-use Rattle.std.specs.Prelude.{◌≡◌, refl, Bool, cond, ◌&&◌, ℕ, suc, ◌+◌, ◌≤◌, ◌<◌, leb, eqb, get_or}
+use Rattle.std.specs.Prelude.{◌≡◌, refl, Bool, cond, ◌&&◌, ℕ, suc, ◌+◌, ◌≤◌, ◌<◌, leb, eqb, get_or, None, Some}
 use Rattle.std.proofs.Common.{sym, ap, ◌∙◌, leb-true}
 use Rattle.std.proofs.Math.Bool.{true, false}
 use mathlib.Core.List.{List, [], ◌∷◌, ◌++◌, map}
 use native.Mathlib.Omega.{arith}
 use Rattle.std.proofs.Math.ListN.{length, length-append}
-use Rattle.lines.specs.declared.verdict.Verdict.TheVariants.{Fine, Fault}
 use Rattle.lines.specs.Nodes.{Line, is_element, no_line}
 use Rattle.lines.specs.Masters.{depth_after, placed, bounds_from, master_bounds}
 use Rattle.lines.specs.Theorems.Bools.{and_parts}
@@ -129,7 +128,7 @@ length_whole k [] = refl
 length_whole k (l ∷ ls) = ap suc (length_whole (suc k) ls)
 
 -- the lines from number k on, behind a node that reaches `most`
-lines_good : (look : Lookup) (x : Node) (most k : ℕ) (ls : List Line) → bounds_from most k ls ≡ Fine → most ≤ reach look x
+lines_good : (look : Lookup) (x : Node) (most k : ℕ) (ls : List Line) → bounds_from most k ls ≡ None → most ≤ reach look x
     → ((i : ℕ) → i < length ls → look.element (k + i) ≡ is_element (get_or ls i no_line).kind)
     → Walk look x (whole (numbered_from k ls)) × Shallow (whole (numbered_from k ls))
 unfolding bounds_from placed depth_after whole numbered_from element_of
@@ -147,8 +146,8 @@ lines_good look x most k (l ∷ ls) h m f =
     reaches true b e = rw (sym e) (omega arith)
     reaches false b e = rw (sym e) (omega arith)
 
-    go : (b : Bool) → placed most k l ≡ b → cond b (bounds_from (depth_after l) (suc k) ls) (Fault k) ≡ Fine
-        → (bounds_from (depth_after l) (suc k) ls ≡ Fine → Walk look y (whole (numbered_from (suc k) ls)) × Shallow (whole (numbered_from (suc k) ls)))
+    go : (b : Bool) → placed most k l ≡ b → cond b (bounds_from (depth_after l) (suc k) ls) (Some k) ≡ None
+        → (bounds_from (depth_after l) (suc k) ls ≡ None → Walk look y (whole (numbered_from (suc k) ls)) × Shallow (whole (numbered_from (suc k) ls)))
         → Walk look x (y ∷ whole (numbered_from (suc k) ls)) × Shallow (y ∷ whole (numbered_from (suc k) ls))
     go true e q ih =
         let p = and_parts (leb l.depth most) (leb l.depth 7 && eqb l.number k) e in
@@ -160,7 +159,7 @@ lines_good look x most k (l ∷ ls) h m f =
     go false e q ih = let z : ◌≡◌ {A = ℕ} 0 1 = cc in absurd (omega arith)
 
 -- behind a text at depth 0 the first line has depth 0
-pub master_good : (ls : List Line) → length ls ≤ most_nodes → master_bounds ls ≡ Fine → Good (lookup_in (numbered_from 0 ls)) (whole (numbered_from 0 ls))
+pub master_good : (ls : List Line) → length ls ≤ most_nodes → master_bounds ls ≡ None → Good (lookup_in (numbered_from 0 ls)) (whole (numbered_from 0 ls))
 unfolding master_bounds element_of
 master_good ls few h =
     let look = lookup_in (numbered_from 0 ls) in
@@ -175,7 +174,7 @@ master_good ls few h =
     first (x ∷ v) w = let d = w.0 in (omega arith, w.1)
 
 -- so what one master shows is within the bounds, and a sequence of trees
-pub master_shows_good : (ls : List Line) → length ls ≤ most_nodes → master_bounds ls ≡ Fine → (X : Transformation) (o : Shown) → showing (one_master ls) X ≡ gives o
+pub master_shows_good : (ls : List Line) → length ls ≤ most_nodes → master_bounds ls ≡ None → (X : Transformation) (o : Shown) → showing (one_master ls) X ≡ gives o
     → Good (lookup_in (numbered_from 0 ls)) o.value
 unfolding showing
 master_shows_good ls few h X o shows = shows_good (lookup_in (numbered_from 0 ls)) X [] (whole (numbered_from 0 ls)) tt (master_good ls few h) o shows

@@ -1,9 +1,8 @@
 -- Demand 3 over the rules, for any ground whose numbers are covered and rising.
-use Rattle.std.specs.Prelude.{◌≡◌, refl, Bool, true, false, not, List, [], ◌∷◌, ◌↔◌, ◌⊎◌, ℕ, zero, suc, ◌<◌, eqb}
+use Rattle.std.specs.Prelude.{◌≡◌, refl, Bool, true, false, not, List, [], ◌∷◌, ◌↔◌, ◌⊎◌, ℕ, zero, suc, ◌<◌, eqb, None, Some}
 use Rattle.std.proofs.Math.Path.{sym, ap}
 use Rattle.std.proofs.Common.{◌∙◌, inl, inr, arith, eqb-true}
 use Rattle.std.proofs.lemmas.Bool.{not-false}
-use Rattle.lines.specs.declared.verdict.Verdict.TheVariants.{Fine, Fault}
 use Rattle.lines.specs.Nodes.{Line, is_element, changed_mark, line_at}
 use Rattle.lines.specs.Views.{mark_counted}
 use Rattle.values.specs.Values.{Origin, master, program, Value, Lookup, bytes_of, is_from, among}
@@ -40,7 +39,7 @@ pub record Criterion (G : Ground) (o : Shown) (ls : List Line) (n : ℕ) : Type 
 
 -- no node's standing is clash
 abbrev pub Accepted : Ground → Transformation → List Line → Type 0
-Accepted G X ls = first_clash (standing_for G X ls) G.lines ≡ Fine
+Accepted G X ls = first_clash (standing_for G X ls) G.lines ≡ None
 
 -- "Mark 01 stands only on a text": of the lines of an element
 abbrev pub TextMarks : Ground → Shown → List Line → Type 0
@@ -63,7 +62,7 @@ pub record Demand3 (G : Ground) (X : Transformation) (o : Shown) (ls : List Line
   -- and showing again gives the same value and the same numbers compared
   pub again : Accepted G X ls → TextMarks G o ls → showing (after G (standing_for G X ls)) X ≡ gives o
   -- otherwise the clash stands at the least number that fails
-  pub refused : (n : ℕ) → first_clash (standing_for G X ls) G.lines ≡ Fault n → (Criterion G o ls n → ⊥) × ((m : ℕ) → m < n → Criterion G o ls m)
+  pub refused : (n : ℕ) → first_clash (standing_for G X ls) G.lines ≡ Some n → (Criterion G o ls n → ⊥) × ((m : ℕ) → m < n → Criterion G o ls m)
 
 -- ## Standings, by the law
 

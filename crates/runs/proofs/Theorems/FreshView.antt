@@ -1,7 +1,6 @@
 -- The fresh view put back changes nothing: no clash, and every line as it was.
-use Rattle.std.specs.Prelude.{◌≡◌, refl, Bool, true, false, cond, List, [], ◌∷◌, ℕ, zero, suc, eqb, get_or}
+use Rattle.std.specs.Prelude.{◌≡◌, refl, Bool, true, false, cond, List, [], ◌∷◌, ℕ, zero, suc, eqb, get_or, None}
 use Rattle.std.proofs.Common.{ap, ◌∙◌, arith}
-use Rattle.lines.specs.declared.verdict.Verdict.TheVariants.{Fine}
 use Rattle.lines.specs.Nodes.{Line, untouched_mark, line_at, no_line}
 use Rattle.lines.specs.Views.{mark_counted}
 use Rattle.values.specs.Values.{Origin, master, program, Value, among}
@@ -26,7 +25,7 @@ handed_back_same s b h (a ∷ ls) = rw (h a.number, hands_back_lock a.line (b a.
 
 -- a view without an edit changes nothing
 pub unedited_same : (G : Ground) (X : Transformation) (o : Shown) → showing G X ≡ gives o → (ls : List Line) → ((n i : ℕ) → Edited G o ls n i → ⊥)
-    → (first_clash (standing_for G X ls) G.lines ≡ Fine) × (handed_back (standing_for G X ls) G.lines ≡ G.lines)
+    → (first_clash (standing_for G X ls) G.lines ≡ None) × (handed_back (standing_for G X ls) G.lines ≡ G.lines)
 unfolding is_clash sort
 unedited_same G X o shows ls none = (
   no_clash_fine (standing_for G X ls) G.lines (λ n. ap is_clash (locks n) ∙ plain (among n o.compared)),
@@ -67,7 +66,7 @@ unfolding is_edit mark_counted
 unmarked_unedited fresh mark bytes h = rw h
 
 pub fresh_same : (G : Ground) (X : Transformation) (o : Shown) → showing G X ≡ gives o → Unmarked G.lines
-    → (first_clash (standing_for G X (view G o.value)) G.lines ≡ Fine) × (handed_back (standing_for G X (view G o.value)) G.lines ≡ G.lines)
+    → (first_clash (standing_for G X (view G o.value)) G.lines ≡ None) × (handed_back (standing_for G X (view G o.value)) G.lines ≡ G.lines)
 fresh_same G X o shows u =
     unedited_same G X o shows (view G o.value) λ n i p.
     let q = unmarked_unedited (line_of G.lines n).text (line_at (view G o.value) i).mark (line_at (view G o.value) i).text (view_mark G u o.value i) in
@@ -92,7 +91,7 @@ same_file k (l ∷ ls) = ap (λ (r : List Line). l ∷ r) (same_file (suc k) ls)
 
 pub one_fresh : (ls : List Line) (X : Transformation) (o : Shown) → showing (one_master ls) X ≡ gives o → ((i : ℕ) → (get_or ls i no_line).mark ≡ untouched_mark)
     → let s = standing_for (one_master ls) X (view (one_master ls) o.value) in
-    (first_clash s (numbered_from 0 ls) ≡ Fine) × (lines_in (handed_back s (numbered_from 0 ls)) ≡ ls)
+    (first_clash s (numbered_from 0 ls) ≡ None) × (lines_in (handed_back s (numbered_from 0 ls)) ≡ ls)
 one_fresh ls X o shows u =
     let f = fresh_same (one_master ls) X o shows (one_unmarked 0 ls u) in
     (f.0, ap lines_in f.1 ∙ same_file 0 ls)

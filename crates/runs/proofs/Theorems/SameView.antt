@@ -1,8 +1,7 @@
 -- A view beside the fresh one, in which reply 9 finds no difference: each line of a node has the
 -- node's kind and, unless it is marked 01, its bytes; and mark 01 stands on no element.
-use Rattle.std.specs.Prelude.{◌≡◌, refl, Bool, true, false, cond, ◌&&◌, ◌||◌, List, [], ◌∷◌, ℕ, zero, suc, eqb}
+use Rattle.std.specs.Prelude.{◌≡◌, refl, Bool, true, false, cond, ◌&&◌, ◌||◌, List, [], ◌∷◌, ℕ, zero, suc, eqb, None, Some}
 use Rattle.std.proofs.Common.{ap, ◌∙◌, eqb-true}
-use Rattle.lines.specs.declared.verdict.Verdict.TheVariants.{Fine, Fault}
 use Rattle.lines.specs.Nodes.{Line, changed_mark, is_element, kind_rule, line_at}
 use Rattle.lines.specs.Texts.{same_text}
 use Rattle.lines.specs.Views.{same_head, same_line, difference_from, first_difference}
@@ -16,23 +15,23 @@ use Rattle.runs.specs.Theorems.ViewLines.{view_shows}
 use Rattle.runs.proofs.Theorems.Demand3.{FormedLike, TextMarks}
 
 -- no difference: the same line at each place
-same_at : (k : ℕ) (ls fs : List Line) → difference_from k ls fs ≡ Fine → (i : ℕ) → same_line (line_at ls i) (line_at fs i) ≡ true
+same_at : (k : ℕ) (ls fs : List Line) → difference_from k ls fs ≡ None → (i : ℕ) → same_line (line_at ls i) (line_at fs i) ≡ true
 unfolding difference_from same_line same_head same_text
 same_at k [] [] h i = refl
 same_at k [] (f ∷ fs) h i = cc
 same_at k (l ∷ ls) [] h i = cc
 same_at k (l ∷ ls) (f ∷ fs) h zero = go (same_line l f) h
   where
-    go : (b : Bool) → cond b (difference_from (suc k) ls fs) (Fault k) ≡ Fine → b ≡ true
+    go : (b : Bool) → cond b (difference_from (suc k) ls fs) (Some k) ≡ None → b ≡ true
     go true q = refl
     go false q = cc
 same_at k (l ∷ ls) (f ∷ fs) h (suc i) = same_at (suc k) ls fs (go (same_line l f) h) i
   where
-    go : (b : Bool) → cond b (difference_from (suc k) ls fs) (Fault k) ≡ Fine → difference_from (suc k) ls fs ≡ Fine
+    go : (b : Bool) → cond b (difference_from (suc k) ls fs) (Some k) ≡ None → difference_from (suc k) ls fs ≡ None
     go true q = q
     go false q = cc
 
-pub same_formed : (rule : ℕ → ℕ → List ℕ → Bool) (G : Ground) (o : Shown) (ls : List Line) → first_difference ls (view G o.value) ≡ Fine
+pub same_formed : (rule : ℕ → ℕ → List ℕ → Bool) (G : Ground) (o : Shown) (ls : List Line) → first_difference ls (view G o.value) ≡ None
     → ((i : ℕ) → rule (line_at ls i).kind (line_at ls i).mark (line_at ls i).text ≡ true)
     → (n i : ℕ) → is_copy n o.value i ≡ true → FormedLike rule (line_at ls i) (line_of G.lines n)
 unfolding first_difference same_line same_head

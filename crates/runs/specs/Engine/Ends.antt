@@ -1,19 +1,19 @@
 -- Reading without the tree: where a subtree ends, or the first fault, by the operation's class and its number of sub-entries in the one table.
-use Rattle.std.specs.Prelude.{Bool, true, false, cond, List, ℕ, zero, suc, eqb, get_or}
+use Rattle.std.specs.Prelude.{Bool, true, false, cond, List, ℕ, zero, suc, eqb, get_or, Option, None, Some}
 use Rattle.lines.specs.declared.table.Class.{Class}
-use Rattle.lines.specs.declared.table.Class.TheVariants.{Transformation as Transforms, Test as Tests, Unknown}
-use Rattle.lines.specs.Entries.{Entry, class_of, row_of}
+use Rattle.lines.specs.declared.table.Class.TheVariants.{Transformation as Transforms, Test as Tests}
+use Rattle.lines.specs.Entries.{Entry, class_of, subs_of}
 use Rattle.runs.specs.Results.{Result, gives, stops, ◌>>=◌, ◌>>◌, ensure}
 use Rattle.runs.specs.Reading.{Room, below, no_entry}
 
 -- whether this class stands where a test is asked for, or where none is
-unfoldable pub stands : Bool → Class → Bool
-stands true Tests = true
-stands true Transforms = false
-stands true Unknown = false
-stands false Tests = false
-stands false Transforms = true
-stands false Unknown = false
+unfoldable pub stands : Bool → Option Class → Bool
+stands true (Some Tests) = true
+stands true (Some Transforms) = false
+stands true None = false
+stands false (Some Tests) = false
+stands false (Some Transforms) = true
+stands false None = false
 
 -- so many transformations, one behind the other
 unfoldable pub end_of : (ℕ → Result ℕ ℕ) → ℕ → ℕ → Result ℕ ℕ
@@ -31,7 +31,7 @@ module _ (entries : List Entry) where
   end_at (suc levels) room asked p = do
     inner ← below (get_or entries p no_entry) p room
     ensure (stands asked (class_of (get_or entries p no_entry).operation)) p
-    end_below (end_at levels inner false) (end_at levels inner true) (row_of (get_or entries p no_entry).operation).1 (suc p)
+    end_below (end_at levels inner false) (end_at levels inner true) (subs_of (get_or entries p no_entry).operation) (suc p)
 
 -- where the branch of a 0B stands, by what its test at p says
 abbrev pub branch_at : List ℕ → ℕ → Bool → ℕ

@@ -6,12 +6,10 @@ use Rattle.values.specs.Values.{Value, Lookup, element_of, no_top}
 use Rattle.values.specs.Engine.Words.{Made, value_at}
 use Rattle.runs.specs.declared.at.At.{At}
 use Rattle.runs.specs.declared.stop.Stop.{Stop}
-use Rattle.runs.specs.declared.stop.Run.{Run}
-use Rattle.runs.specs.declared.stop.Tested.{Tested}
 use Rattle.runs.specs.Results.{Result}
 use Rattle.runs.specs.Programs.{Test, contents}
 use Rattle.runs.specs.Showing.{show, test}
-use Rattle.runs.specs.Engine.Runs.{made_by, lookup_of, result_of, said_of, value_only, yes_only, AtTop}
+use Rattle.runs.specs.Engine.Runs.{Run, Tested, made_by, lookup_of, result_of, said_of, value_only, yes_only, AtTop}
 
 -- "exactly one top node"
 unfoldable pub is_one_top : Value → Bool
@@ -39,7 +37,7 @@ pub record Leaves (made : Made) (w : List ℕ) (top : ℕ) (w' : List ℕ) (r : 
 
 -- the source lies below top, and a value has room there
 abbrev pub LeafSpaceAt : List ℕ → At → Type 0
-LeafSpaceAt w at = (at.start + at.len ≤ at.top) × (at.len ≤ 128) × (at.top + 128 ≤ length w)
+LeafSpaceAt w at = (at.source.start + at.source.len ≤ at.top) × (at.source.len ≤ 128) × (at.top + 128 ≤ length w)
 
 abbrev pub LeavesAt : Made → List ℕ → At → List ℕ → Run → Result Stop Value → Type 0
 LeavesAt made w at w' r answer = Leaves made w at.top w' r answer
@@ -47,8 +45,8 @@ LeavesAt made w at w' r answer = Leaves made w at.top w' r answer
 -- what 06 leaves
 abbrev pub ContentsAt : List Entry → List Line → List ℕ → At → List ℕ → Run → Type 0
 ContentsAt entries lines w at w' r =
-    LeavesAt (made_by entries) w at w' r (value_only (show (lookup_of lines) (contents at.entry) [] (value_at (made_by entries) w at.start at.len)))
+    LeavesAt (made_by entries) w at w' r (value_only (show (lookup_of lines) (contents at.entry) [] (value_at (made_by entries) w at.source.start at.source.len)))
 
 -- the answer of a test in which nothing is run
 abbrev pub SaysAt : List Entry → List Line → List ℕ → At → Tested → Test → Type 0
-SaysAt entries lines w at r P = said_of r ≡ yes_only (test (lookup_of lines) P [] (value_at (made_by entries) w at.start at.len))
+SaysAt entries lines w at r P = said_of r ≡ yes_only (test (lookup_of lines) P [] (value_at (made_by entries) w at.source.start at.source.len))

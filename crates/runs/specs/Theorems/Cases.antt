@@ -1,14 +1,10 @@
 -- Computed cases: standings, programs read, values at the bounds. The standings are of cases that look as if they could go wrong:
 -- copies through slots, hidden slots, locks of tests that say no or whose result is thrown away, program elements around master nodes.
-use Rattle.std.specs.Prelude.{◌≡◌, refl, cond, ◌||◌, List, [], ◌∷◌, ◌++◌, map, ℕ, zero, suc, ◌+◌, length, eqb}
+use Rattle.std.specs.Prelude.{◌≡◌, refl, cond, ◌||◌, List, [], ◌∷◌, ◌++◌, map, ℕ, zero, suc, ◌+◌, length, eqb, Option, None, Some, Result, Ok}
 use Rattle.lines.specs.Entries.{Entry, slot_of, text_of}
 use Rattle.runs.specs.Results.{gives, stops, stop_number, stop_entry}
 use Rattle.runs.specs.Reading.{operations, makes, below, transformation_at, read_in, read_program}
-use Rattle.lines.specs.declared.verdict.Verdict.{Verdict}
-use Rattle.lines.specs.declared.verdict.Verdict.TheVariants.{Fine, Fault}
 use Rattle.lines.specs.declared.scan.File.TheVariants.{Master}
-use Rattle.lines.specs.declared.scan.Scan.{Scan}
-use Rattle.lines.specs.declared.scan.Scan.TheVariants.{Lines}
 use Rattle.lines.specs.Hex.{is_hex, hex_value, decode, hex_digit, encode}
 use Rattle.lines.specs.Lines.{push, cut, pairs_then_end, is_line}
 use Rattle.lines.specs.Files.{form_of, limit_of, scan_from, scan}
@@ -82,29 +78,29 @@ record Case : Type 0 where
   master : List Line
   tree : Transformation
   edits : List Standing
-  clash : Verdict  -- the first
+  clash : Option ℕ  -- the first
   marks : List ℕ  -- of the lines handed back
 
-abbrev case : List Line → Transformation → List Standing → Verdict → List ℕ → Case
+abbrev case : List Line → Transformation → List Standing → Option ℕ → List ℕ → Case
 case master tree edits clash marks = record { master = master; tree = tree; edits = edits; clash = clash; marks = marks }
 
 abbrev cases : List Case
 cases =
-    case one twice (untouched ∷ changed lo ∷ []) Fine (1 ∷ []) ∷
-    case one twice (changed lo ∷ changed lo ∷ []) Fine (1 ∷ []) ∷
-    case one twice (deleted ∷ changed lo ∷ []) (Fault 0) (0 ∷ []) ∷
-    case twins hidden (deleted ∷ untouched ∷ untouched ∷ []) Fine (2 ∷ 0 ∷ []) ∷
-    case twins itself (untouched ∷ untouched ∷ []) Fine (0 ∷ 0 ∷ []) ∷
-    case twins itself (untouched ∷ deleted ∷ []) (Fault 1) (0 ∷ 0 ∷ []) ∷
-    case twins thrown (changed lo ∷ untouched ∷ []) (Fault 0) (0 ∷ 0 ∷ []) ∷
-    case twins says_no (untouched ∷ changed lo ∷ []) (Fault 1) (0 ∷ 0 ∷ []) ∷
-    case one other_side (changed lo ∷ untouched ∷ []) (Fault 0) (0 ∷ []) ∷
-    case twins wrapped (untouched ∷ changed lo ∷ deleted ∷ []) Fine (1 ∷ 2 ∷ []) ∷
-    case boxed (beside 0 (source 1) (contents 2)) (deleted ∷ untouched ∷ changed lo ∷ []) Fine (2 ∷ 1 ∷ []) ∷
+    case one twice (untouched ∷ changed lo ∷ []) None (1 ∷ []) ∷
+    case one twice (changed lo ∷ changed lo ∷ []) None (1 ∷ []) ∷
+    case one twice (deleted ∷ changed lo ∷ []) (Some 0) (0 ∷ []) ∷
+    case twins hidden (deleted ∷ untouched ∷ untouched ∷ []) None (2 ∷ 0 ∷ []) ∷
+    case twins itself (untouched ∷ untouched ∷ []) None (0 ∷ 0 ∷ []) ∷
+    case twins itself (untouched ∷ deleted ∷ []) (Some 1) (0 ∷ 0 ∷ []) ∷
+    case twins thrown (changed lo ∷ untouched ∷ []) (Some 0) (0 ∷ 0 ∷ []) ∷
+    case twins says_no (untouched ∷ changed lo ∷ []) (Some 1) (0 ∷ 0 ∷ []) ∷
+    case one other_side (changed lo ∷ untouched ∷ []) (Some 0) (0 ∷ []) ∷
+    case twins wrapped (untouched ∷ changed lo ∷ deleted ∷ []) None (1 ∷ 2 ∷ []) ∷
+    case boxed (beside 0 (source 1) (contents 2)) (deleted ∷ untouched ∷ changed lo ∷ []) None (2 ∷ 1 ∷ []) ∷
     []
 
 abbrev Outcome : Type 0
-Outcome = Verdict × List ℕ
+Outcome = Option ℕ × List ℕ
 
 outcome : Case → Outcome
 outcome c =
@@ -212,11 +208,11 @@ all_shown = refl
 abbrev masters : List (List Line)
 masters = map (λ c. c.master) cases ++ map (λ c. c.0.0) shows
 
-judged : List Line → Scan × Verdict × Verdict
+judged : List Line → Result ℕ ℕ × Option ℕ × Option ℕ
 judged m = (scan Master (file_of m), master_bounds m, unmarked m)
 
-faultless : List Line → Scan × Verdict × Verdict
-faultless m = (Lines (length m), Fine, Fine)
+faultless : List Line → Result ℕ ℕ × Option ℕ × Option ℕ
+faultless m = (Ok (length m), None, None)
 
 all_sound : map judged masters ≡ map faultless masters
 unfolding judged faultless texts_from nested file_of writing.line_bytes writing.bytes_of encode hex_digit scan scan_from form_of limit_of cut push is_line pairs_then_end is_hex decode hex_value

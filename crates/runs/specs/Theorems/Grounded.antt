@@ -1,12 +1,11 @@
 -- Grounds whose numbers are covered and rising; their lines as handed back; the first clash.
-use Rattle.std.specs.Prelude.{◌≡◌, Bool, ◌||◌, ℕ, suc, ◌<◌, ◌≤◌}
+use Rattle.std.specs.Prelude.{◌≡◌, Bool, ◌||◌, ℕ, suc, ◌<◌, ◌≤◌, None, Some}
 use Rattle.std.proofs.Math.Path.{refl, ap}
 use Rattle.std.proofs.Common.{sym, ◌∙◌, arith, eqb-true, ne_eqb}
 use Rattle.std.proofs.Math.Bool.{true, false, cond}
 use mathlib.Core.List.{List, [], ◌∷◌}
 use Rattle.std.proofs.Math.Dec.{eqb}
 use Rattle.lines.specs.Nodes.{no_line}
-use Rattle.lines.specs.declared.verdict.Verdict.TheVariants.{Fine, Fault}
 use Rattle.values.specs.Values.{Value}
 use Rattle.values.specs.Standings.{Standing, untouched, sort, is_clash, gathered, hands_back}
 use Rattle.values.proofs.Theorems.MergeLaws.{unit_left}
@@ -71,19 +70,19 @@ whole_handed_back s (a ∷ ls) = rw ((hands_back_head a.line (s a.number)).0, wh
 -- ## The first clash
 
 module _ (s : ℕ → Standing) where
-  pub fine_no_clash : (ls : List Numbered) → first_clash s ls ≡ Fine → (n : ℕ) → (has_line n ls ≡ false → s n ≡ untouched) → is_clash (s n) ≡ false
+  pub fine_no_clash : (ls : List Numbered) → first_clash s ls ≡ None → (n : ℕ) → (has_line n ls ≡ false → s n ≡ untouched) → is_clash (s n) ≡ false
   unfolding first_clash has_line is_clash sort
   fine_no_clash [] h n u = ap is_clash (u refl)
   fine_no_clash (a ∷ ls) h n u = go (λ q k. fine_no_clash ls q n k) (eqb n a.number) refl (is_clash (s a.number)) refl h
     where
-      go : (first_clash s ls ≡ Fine → (has_line n ls ≡ false → s n ≡ untouched) → is_clash (s n) ≡ false)
-          → (b : Bool) → eqb n a.number ≡ b → (c : Bool) → is_clash (s a.number) ≡ c → cond c (Fault a.number) (first_clash s ls) ≡ Fine
+      go : (first_clash s ls ≡ None → (has_line n ls ≡ false → s n ≡ untouched) → is_clash (s n) ≡ false)
+          → (b : Bool) → eqb n a.number ≡ b → (c : Bool) → is_clash (s a.number) ≡ c → cond c (Some a.number) (first_clash s ls) ≡ None
           → is_clash (s n) ≡ false
       go ih b e true c q = cc
       go ih true e false c q = ap (λ (m : ℕ). is_clash (s m)) (eqb-true n a.number e) ∙ c
       go ih false e false c q = ih q (λ p. u (rw (e, p)))
 
-  pub no_clash_fine : (ls : List Numbered) → ((n : ℕ) → is_clash (s n) ≡ false) → first_clash s ls ≡ Fine
+  pub no_clash_fine : (ls : List Numbered) → ((n : ℕ) → is_clash (s n) ≡ false) → first_clash s ls ≡ None
   unfolding first_clash
   no_clash_fine [] h = refl
   no_clash_fine (a ∷ ls) h = rw (h a.number) (no_clash_fine ls h)
@@ -97,7 +96,7 @@ module _ (s : ℕ → Standing) where
   abbrev pub Least : List Numbered → ℕ → Type 0
   Least ls n = (is_clash (s n) ≡ true) × ((m : ℕ) → m < n → (has_line m ls ≡ false → s m ≡ untouched) → is_clash (s m) ≡ false)
 
-  pub fault_least : (k : ℕ) (ls : List Numbered) → Rising k ls → (n : ℕ) → first_clash s ls ≡ Fault n → Least ls n
+  pub fault_least : (k : ℕ) (ls : List Numbered) → Rising k ls → (n : ℕ) → first_clash s ls ≡ Some n → Least ls n
   unfolding first_clash has_line is_clash sort
   fault_least k [] r n h = (cc, λ m l u. cc)
   fault_least k (a ∷ ls) r n h = go (λ q. fault_least (suc a.number) ls r.1 n q) (is_clash (s a.number)) refl h
@@ -110,7 +109,7 @@ module _ (s : ℕ → Standing) where
       below : a.number ≡ n → (m : ℕ) → m < n → has_line m (a ∷ ls) ≡ false
       below e m l = rw (ne_eqb m a.number (λ q. omega arith)) (absent_below (suc a.number) ls r.1 m (omega arith))
 
-      go : (first_clash s ls ≡ Fault n → Least ls n) → (b : Bool) → is_clash (s a.number) ≡ b → cond b (Fault a.number) (first_clash s ls) ≡ Fault n
+      go : (first_clash s ls ≡ Some n → Least ls n) → (b : Bool) → is_clash (s a.number) ≡ b → cond b (Some a.number) (first_clash s ls) ≡ Some n
           → Least (a ∷ ls) n
       go ih true e q = let z : a.number ≡ n = cc in (ap (λ (x : ℕ). is_clash (s x)) (sym z) ∙ e, λ m l u. ap is_clash (u (below z m l)))
       go ih false e q = let i = ih q in (i.0, λ m l u. here e m (eqb m a.number) refl (i.1 m l) u)

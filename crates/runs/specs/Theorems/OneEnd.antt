@@ -4,7 +4,7 @@ use Rattle.std.proofs.Common.{sym, ap, ◌∙◌, arith, ltb-true, ltb-false}
 use Rattle.std.proofs.Math.Bool.{true, false}
 use Prim.Native.Nat.{ℕ, zero, suc, ◌<◌}
 use Rattle.std.proofs.Math.ListN.{get_or-eq_default}
-use Rattle.lines.specs.Entries.{Entry, class_of, rows, row_of}
+use Rattle.lines.specs.Entries.{Entry, class_of, rows, row_of, subs_of}
 use Rattle.runs.specs.Results.{gives}
 use Rattle.runs.specs.Programs.{equals, Transformation, source, nothing, text, tag, slot, contents, within}
 use Rattle.runs.specs.Programs.{and_then, beside, each, choose, bind, Test, compares, tagged, is_element}
@@ -32,7 +32,7 @@ module _ (entries : List Entry) where
         go false e = absurd (some (ap (λ (x : Entry). x.operation) (sym (get_or-eq_default entries no_entry (ltb-false p (length entries) e))) ∙ o))
 
     -- by the number of sub-entries
-    one_end : (n : ℕ) → (row_of b).1 ≡ n
+    one_end : (n : ℕ) → subs_of b ≡ n
         → ((k : ℕ) (room : Room) (r : ℕ) → end_below (end_at entries k room false) (end_at entries k room true) n (suc p) ≡ gives r → q ≡ r)
         → OneEnd p q
     unfolding end_at
@@ -45,24 +45,24 @@ module _ (entries : List Entry) where
             on_ensure (stands asked (class_of (get_or entries p no_entry).operation)) p _ r h₁ λ _ h₂.
             f k inner r (rw (o, s) at h₂)
 
-    leaf_end : (row_of b).1 ≡ 0 → q ≡ suc p → OneEnd p q
+    leaf_end : subs_of b ≡ 0 → q ≡ suc p → OneEnd p q
     unfolding end_below end_of
     leaf_end s e = one_end 0 s λ k room r h. e ∙ gives_inj (suc p) r h
 
-    sub_end : (row_of b).1 ≡ 1 → OneEnd (suc p) q → OneEnd p q
+    sub_end : subs_of b ≡ 1 → OneEnd (suc p) q → OneEnd p q
     unfolding end_below end_of
     sub_end s x = one_end 1 s λ k room r h.
         on_bind (end_at entries k room false (suc p)) _ r h λ a g h₁.
         x.only k room false a g ∙ gives_inj a r h₁
 
-    two_end : (m : ℕ) → (row_of b).1 ≡ 2 → OneEnd (suc p) m → OneEnd m q → OneEnd p q
+    two_end : (m : ℕ) → subs_of b ≡ 2 → OneEnd (suc p) m → OneEnd m q → OneEnd p q
     unfolding end_below end_of
     two_end m s x y = one_end 2 s λ k room r h.
         on_bind (end_at entries k room false (suc p)) _ r h λ a g h₁.
         on_bind (end_at entries k room false a) _ r h₁ λ d i h₂.
         y.only k room false d (rw (x.only k room false a g) i) ∙ gives_inj d r h₂
 
-    choice_end : (l m : ℕ) → (row_of b).1 ≡ 3 → OneEnd (suc p) l → OneEnd l m → OneEnd m q → OneEnd p q
+    choice_end : (l m : ℕ) → subs_of b ≡ 3 → OneEnd (suc p) l → OneEnd l m → OneEnd m q → OneEnd p q
     unfolding end_below end_of
     choice_end l m s t x y = one_end 3 s λ k room r h.
         on_bind (end_at entries k room true (suc p)) _ r h λ a g h₁.

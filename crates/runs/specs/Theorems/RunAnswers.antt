@@ -1,5 +1,5 @@
 -- What a run leaves where it gave a value, and where it stopped, whatever tree stands at its entry.
-use Rattle.std.specs.Prelude.{◌≡◌, refl, List, ℕ, ◌≤◌, length, take}
+use Rattle.std.specs.Prelude.{◌≡◌, refl, List, ℕ, ◌≤◌, length, take, Ok, Err}
 use Rattle.std.proofs.Common.{sym, ◌∙◌, ap, arith}
 use Rattle.lines.specs.Nodes.{Line}
 use Rattle.lines.specs.Entries.{Entry}
@@ -8,8 +8,6 @@ use Rattle.values.specs.Values.{Value}
 use Rattle.values.specs.Engine.Words.{value_at}
 use Rattle.runs.specs.declared.slots.SlotWords.{SlotWords}
 use Rattle.runs.specs.declared.stop.Stop.{Stop}
-use Rattle.runs.specs.declared.stop.Run.{Run}
-use Rattle.runs.specs.declared.stop.Run.TheVariants as ran
 use Rattle.runs.specs.Results.{Result, gives, stops}
 use Rattle.runs.specs.Programs.{Transformation}
 use Rattle.runs.specs.Showing.{Shown, show}
@@ -46,19 +44,15 @@ module _ (entries : List Entry) (lines : List Line) where
     pub is : (X : Transformation) (q : ℕ) → Stands entries X entry q
         → show (lookup_of lines) X (slots_at (made_by entries) w slots) (value_at (made_by entries) w start len) ≡ stops s
 
-module _ {entries : List Entry} {lines : List Line} {w : List ℕ} {slots : SlotWords} {entry start len top : ℕ}
-    {w' : List ℕ} {r : Run} (x : ShownBy entries lines w slots entry start len top w' r) where
-  pub got : length w' ≡ length w → (v : Extent) → r ≡ ran.Value v → Got entries lines w slots entry start len top w' v.len
-  got k v e =
-      let y : ShownBy entries lines w slots entry start len top w' (ran.Value v) = rw e at x in
+module _ {entries : List Entry} {lines : List Line} {w : List ℕ} {slots : SlotWords} {entry start len top : ℕ} {w' : List ℕ} where
+  pub got : {v : Extent} → ShownBy entries lines w slots entry start len top w' (Ok v) → length w' ≡ length w → Got entries lines w slots entry start len top w' v.len
+  got {v} x k =
       record {
-        frame = y.frame;
-        small = y.place.1;
+        frame = x.frame;
+        small = x.place.1;
         kept = k;
-        is = λ X q s. gave _ _ (ap (λ (k : ℕ). gives (value_at (made_by entries) w' k v.len)) (sym y.place.0) ∙ y.meets X q s);
+        is = λ X q s. gave _ _ (ap (λ (k : ℕ). gives (value_at (made_by entries) w' k v.len)) (sym x.place.0) ∙ x.meets X q s);
       }
 
-  pub halted : (s : Stop) → r ≡ ran.Stop s → Halted entries lines w slots entry start len top w' s
-  halted s e =
-      let y : ShownBy entries lines w slots entry start len top w' (ran.Stop s) = rw e at x in
-      record { frame = y.frame; is = λ X q t. stopped _ s (y.meets X q t) }
+  pub halted : {s : Stop} → ShownBy entries lines w slots entry start len top w' (Err s) → Halted entries lines w slots entry start len top w' s
+  halted {s} x = record { frame = x.frame; is = λ X q t. stopped _ s (x.meets X q t) }

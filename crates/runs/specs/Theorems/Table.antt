@@ -1,11 +1,11 @@
 -- Reading goes by the one table of operations: as many sub-entries, and the same class, for every operation byte.
-use Rattle.std.specs.Prelude.{◌≡◌, refl, Bool, true, false, List, [], ◌∷◌, ℕ, zero, suc, ◌+◌, ◌≤◌, ◌<◌, ltb, get_or}
+use Rattle.std.specs.Prelude.{◌≡◌, refl, Bool, true, false, List, [], ◌∷◌, ℕ, zero, suc, ◌+◌, ◌≤◌, ◌<◌, ltb, get_or, Option, None, Some, option_map, unwrap_or}
 use Rattle.std.proofs.Common.{sym, ap, ◌∙◌, arith, le-leb, ltb-true, ltb-false}
 use Rattle.std.proofs.Math.ListN.{get_or-map}
 use Rattle.std.proofs.lemmas.Bool.{lt-leb}
 use Rattle.lines.specs.declared.table.Class.{Class}
-use Rattle.lines.specs.declared.table.Class.TheVariants.{Transformation, Test, Unknown}
-use Rattle.lines.specs.Entries.{Entry, class_of, rows, row_of}
+use Rattle.lines.specs.declared.table.Class.TheVariants.{Transformation, Test}
+use Rattle.lines.specs.Entries.{Entry, class_of, rows, row_of, subs_of}
 use Rattle.runs.specs.Reading.{Makes, leaf, one, two, choice, test_leaf, test_one, unknown, operations, makes}
 
 -- how many sub-entries are read
@@ -19,19 +19,19 @@ sub_entries (test_one f) = 1
 sub_entries unknown = 0
 
 -- where it may stand
-unfoldable pub class_made : Makes → Class
-class_made (leaf t) = Transformation
-class_made (one f) = Transformation
-class_made (two f) = Transformation
-class_made (choice f) = Transformation
-class_made (test_leaf t) = Test
-class_made (test_one f) = Test
-class_made unknown = Unknown
+unfoldable pub class_made : Makes → Option Class
+class_made (leaf t) = Some Transformation
+class_made (one f) = Some Transformation
+class_made (two f) = Some Transformation
+class_made (choice f) = Some Transformation
+class_made (test_leaf t) = Some Test
+class_made (test_one f) = Some Test
+class_made unknown = None
 
-pub reads_sub_entries : (e : Entry) (p : ℕ) → sub_entries (makes e p) ≡ (row_of e.operation).1
+pub reads_sub_entries : (e : Entry) (p : ℕ) → sub_entries (makes e p) ≡ subs_of e.operation
 unfolding makes operations sub_entries row_of rows
 reads_sub_entries e p =
-    sym (get_or-map (λ r. sub_entries (r p e)) operations e.operation (λ p e. unknown)) ∙ get_or-map (λ r. r.1) rows e.operation _
+    sym (get_or-map (λ r. sub_entries (r p e)) operations e.operation (λ p e. unknown)) ∙ get_or-map (λ r. unwrap_or (option_map (λ x. x.subs) r) 0) rows e.operation _
 
 -- ## Classes
 
@@ -55,7 +55,7 @@ past_up_from k zero i d h = refl
 past_up_from k (suc n) zero d h = absurd (omega arith)
 past_up_from k (suc n) (suc i) d h = past_up_from (suc k) n i d (omega arith)
 
-past_class : (b : ℕ) → row_count ≤ b → class_of b ≡ Unknown
+past_class : (b : ℕ) → row_count ≤ b → class_of b ≡ None
 unfolding class_of
 past_class b h = rw (le-leb 0x01 b (omega arith), lt-leb b 0x0C (omega arith), le-leb 0x11 b (omega arith), lt-leb b 0x13 (omega arith))
 

@@ -1,10 +1,8 @@
 -- "Kept nodes and removed nodes together make the old count": of lines, of numbers, of bytes.
-use Rattle.std.specs.Prelude.{◌≡◌, refl, Bool, true, false, cond, List, [], ◌∷◌, ℕ, suc, ◌+◌, ◌*◌, length}
+use Rattle.std.specs.Prelude.{◌≡◌, refl, Bool, true, false, cond, List, [], ◌∷◌, ℕ, suc, ◌+◌, ◌*◌, length, Option, None}
 use Rattle.std.proofs.Common.{ap, ◌∙◌, arith}
 use Rattle.lines.specs.Hex.{encode}
 use Rattle.lines.specs.Nodes.{Line}
-use Rattle.sweeping.specs.declared.removal.Above.{Above}
-use Rattle.sweeping.specs.declared.removal.Above.TheVariants.{Nothing}
 use Rattle.sweeping.specs.Sweeping.{behind, removed_under, removed, kept, numbered_anew, swept, numbers_from, new_numbers, number_line, number_file}
 
 -- how many are true
@@ -14,14 +12,14 @@ counted (g ∷ gs) = cond g 1 0 + counted gs
 
 -- ## Lines
 
-walked_each : (above : Above) (ls : List Line) → length (removed_under above ls) ≡ length ls
+walked_each : (above : Option ℕ) (ls : List Line) → length (removed_under above ls) ≡ length ls
 unfolding removed_under
 walked_each above [] = refl
 walked_each above (l ∷ ls) = ap suc (walked_each (behind above l) ls)
 
 pub removed_each : (ls : List Line) → length (removed ls) ≡ length ls
 unfolding removed
-removed_each ls = walked_each Nothing ls
+removed_each ls = walked_each None ls
 
 kept_count : (gs : List Bool) (ls : List Line) → length gs ≡ length ls → length (kept gs ls) + counted gs ≡ length ls
 unfolding kept counted

@@ -8,6 +8,7 @@ use Prim.Native.Nat.{ℕ, suc, pred, ◌+◌, ◌-◌, ◌/◌, ◌%◌, ◌≤�
 use Rattle.std.proofs.Math.Numerals.{lt_of_le_of_ne}
 use native.Mathlib.Omega.{arith}
 use Rattle.std.proofs.Math.Dec.{eqb, ltb}
+use Rattle.std.proofs.lemmas.List.{map-append}
 use Rattle.std.proofs.Math.ListN.{length-map}
 use borrow.Author.Tests.{ltb-true, ltb-false, lt-ltb, le-ltb, eqb-true, eqb-false, eq-eqb, ne_eqb, leb-true}
 use Rattle.lines.specs.Texts.{same_text}
@@ -18,14 +19,6 @@ use Rattle.values.specs.Standings.{Standing, untouched, locked, changed, deleted
 use Rattle.values.specs.Engine.Words.{part, Made, origin_of, node_of, value_at, lowered_word, raised_word, standing_of, standings_at, Named, AllNamed, merged_word, merged_words}
 use Rattle.values.proofs.Theorems.MergeLaws.{same_refl}
 use Rattle.values.specs.Theorems.Extents.{length_part, part_join, part_cons, frame_part}
-
-map_append : {A B : Type 0} (f : A → B) (k l : List A) → map f (k ++ l) ≡ map f k ++ map f l
-map_append f [] l = refl
-map_append {A} {B} f (x ∷ k) l = ap (λ (r : List B). f x ∷ r) (map_append f k l)
-
-map_map_same : {A B C : Type 0} (f : A → B) (g : B → C) (h : A → C) → ((x : A) → g (f x) ≡ h x) → (l : List A) → map g (map f l) ≡ map h l
-map_map_same f g h e [] = refl
-map_map_same {A} {B} {C} f g h e (x ∷ l) = ap₂ (λ (a : C) (r : List C). a ∷ r) (e x) (map_map_same f g h e l)
 
 -- ## Extents of nodes
 
@@ -40,7 +33,7 @@ module _ (made : Made) where
 
   pub value_join : (w : List ℕ) (start a b : ℕ) → value_at made w start (a + b) ≡ value_at made w start a ++ value_at made w (start + a) b
   unfolding value_at
-  value_join w start a b = rw (part_join w start a b) (map_append (node_of made) (part w start a) (part w (start + a) b))
+  value_join w start a b = rw (part_join w start a b) (map-append (node_of made) (part w start a) (part w (start + a) b))
 
   pub value_cons : (w : List ℕ) (start len : ℕ) → start + len < length w → value_at made w start (len + 1) ≡ node_of made (get_or w start 0) ∷ value_at made w (start + 1) len
   unfolding value_at
@@ -107,7 +100,7 @@ module _ (texts : ℕ → List ℕ) where
 
   pub standings_join : (w : List ℕ) (start a b : ℕ) → standings_at texts w start (a + b) ≡ standings_at texts w start a ++ standings_at texts w (start + a) b
   unfolding standings_at
-  standings_join w start a b = rw (part_join w start a b) (map_append (standing_of texts) (part w start a) (part w (start + a) b))
+  standings_join w start a b = rw (part_join w start a b) (map-append (standing_of texts) (part w start a) (part w (start + a) b))
 
   pub standings_cons : (w : List ℕ) (start len : ℕ) → start + len < length w
       → standings_at texts w start (len + 1) ≡ standing_of texts (get_or w start 0) ∷ standings_at texts w (start + 1) len

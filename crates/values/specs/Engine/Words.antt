@@ -1,12 +1,18 @@
 -- Values and standings in the work slice: one word a node.
-use Rattle.std.specs.Prelude.{ℕ, ◌+◌, ◌-◌, ◌/◌, ◌%◌, ◌≤◌, ◌<◌, ◌≡◌, Bool, true, false, cond, List, [], ◌∷◌, map, length, take, drop, ltb, eqb}
+use Rattle.std.specs.Prelude.{ℕ, ◌+◌, ◌-◌, ◌/◌, ◌%◌, ◌≤◌, ◌<◌, ◌≡◌, Bool, false, cond, List, [], ◌∷◌, map, length, take, drop, ltb, eqb}
 use Rattle.lines.specs.Texts.{same_text}
+use Rattle.values.specs.declared.extents.Extent.{Extent}
+use Rattle.values.specs.declared.nodes.WordOrigin.{WordOrigin}
+use Rattle.values.specs.declared.nodes.WordOrigin.TheVariants.{Master, Program}
 use Rattle.values.specs.Values.{Origin, master, program, Node, Value, under}
 use Rattle.values.specs.Standings.{Standing, untouched, locked, changed, deleted, clash}
 
 -- an extent: len words from start on
 abbrev pub part : List ℕ → ℕ → ℕ → List ℕ
 part w start len = take len (drop start w)
+
+abbrev pub LiesIn : Extent → List ℕ → Type 0
+LiesIn extent w = extent.start + extent.len ≤ length w
 
 -- ## Nodes
 
@@ -23,8 +29,17 @@ origin_of made o = cond (ltb o 0x8000) (master o) (program (o - 0x8000) (made.el
 unfoldable pub node_of : Made → ℕ → Node
 node_of made x = record { depth = x / 0x10000; origin = origin_of made (x % 0x10000) }
 
+-- the origin that the code reads off a word
+abbrev pub origin_named : Made → WordOrigin → Origin
+origin_named made (Master n) = master n
+origin_named made (Program e) = program e (made.element e) (made.bytes e)
+
+-- the nodes that words stand for
+abbrev pub value_of : Made → List ℕ → Value
+value_of made words = map (node_of made) words
+
 unfoldable pub value_at : Made → List ℕ → ℕ → ℕ → Value
-value_at made w start len = map (node_of made) (part w start len)
+value_at made w start len = value_of made (part w start len)
 
 -- a node one level up, and one level down where there is room
 unfoldable pub lowered_word : ℕ → ℕ
@@ -33,15 +48,10 @@ lowered_word x = cond (ltb x 0x10000) x (x - 0x10000)
 unfoldable pub raised_word : ℕ → ℕ
 raised_word x = cond (ltb x 0xFFFF0000) (x + 0x10000) x
 
--- one of the two: up, or down
-abbrev pub leveled_word : Bool → ℕ → ℕ
-leveled_word true = lowered_word
-leveled_word false = raised_word
-
--- how many nodes the first item of an extent has
-pub record FirstItem (w : List ℕ) (start len r : ℕ) : Type 0 where
-  pub long : (made : Made) → r ≡ 1 + length (under (value_at made w (start + 1) (len - 1)))
-  pub within : r ≤ len
+-- how many nodes the first item has
+pub record FirstItem (words : List ℕ) (r : ℕ) : Type 0 where
+  pub long : (made : Made) → r ≡ 1 + length (under (value_of made (drop 1 words)))
+  pub within : r ≤ length words
 
 -- ## Standings: 0 untouched, 1 locked, 2 deleted, 3 clash, and from 4 on changed to the text of a view line
 

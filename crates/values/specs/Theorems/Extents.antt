@@ -1,9 +1,11 @@
 -- Extents of words: what is read of them after something was put into the slice, and how they join.
 use Rattle.std.specs.Prelude.{◌≡◌, refl, List, [], ◌∷◌, ◌++◌, ◌⊎◌, ℕ, zero, suc, ◌+◌, ◌-◌, ◌≤◌, ◌<◌, length, get_or, take, drop}
 use Rattle.std.proofs.Common.{sym, ◌∙◌, ap, inl, inr, add-one, arith, length-take, length-drop, take-take, drop-drop, take-add, get_or-take, get_or-drop, drop-cons}
+use Rattle.std.proofs.lemmas.Slice.{between_is}
 use Rattle.lines.specs.Writing.{put_at}
 use Rattle.lines.specs.Theorems.PutAt.{put_frame, put_behind}
-use Rattle.values.specs.Engine.Words.{part}
+use Rattle.values.specs.Values.{under}
+use Rattle.values.specs.Engine.Words.{Made, part, value_at, FirstItem}
 
 -- ## Parts
 
@@ -23,9 +25,24 @@ part_cons w start len h =
     let s : start < length w = omega arith in
     rw (add-one, add-one, drop-cons w start 0 s)
 
+-- without its first word
+pub part_rest : (w : List ℕ) (start len : ℕ) → drop 1 (part w start len) ≡ part w (start + 1) (len - 1)
+part_rest w start len = sym (between_is (drop start w) 1 len) ∙ ap (take (len - 1)) (drop-drop 1 start w)
+
+-- what `&w[start..start + len]` is
+pub slice_part : (w : List ℕ) (start len : ℕ) → take (start + len - start) (drop start w) ≡ part w start len
+slice_part w start len = ap (λ (n : ℕ). take n (drop start w)) (omega arith)
+
+-- ## Words of an extent as a value
+
+pub first_item_at : (w : List ℕ) (start len r : ℕ) → start + len ≤ length w → FirstItem (part w start len) r
+    → ((made : Made) → r ≡ 1 + length (under (value_at made w (start + 1) (len - 1)))) × (r ≤ len)
+unfolding value_at
+first_item_at w start len r fits f = (λ made. rw part_rest at (f.long made), rw (length_part w start len fits) at f.within)
+
 -- ## A frame: below `top` nothing has changed
 
-part_below : (w : List ℕ) (top start len : ℕ) → start + len ≤ top → part (take top w) start len ≡ part w start len
+pub part_below : (w : List ℕ) (top start len : ℕ) → start + len ≤ top → part (take top w) start len ≡ part w start len
 part_below w top zero len h = take-take len top w (omega arith)
 part_below w zero (suc start) len h = absurd (omega arith)
 part_below [] (suc top) (suc start) len h = refl

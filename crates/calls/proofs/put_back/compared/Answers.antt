@@ -1,25 +1,14 @@
 -- The view judged beside the fresh one, then its edits carried.
-use Rattle.lines.specs.Engine.Starts.{lines_of, entries_of}
-use Rattle.calls.proofs.Comparing.{Beside, judged_beside}
+use Rattle.calls.proofs.Places.{passed}
+use Rattle.calls.proofs.Comparing.{view_refuses, carriable, carried_compares}
 use Rattle.calls.proofs.put_back.compared.Goals as goal
 
+pub returns-in_err-lines : goal.returns-in_err-lines
+returns-in_err-lines c =
+    rw (passed c.from_residual.ensures.1) (view_refuses c.requires c.args.view.now _ c.in_err-lines.ensures)
+
 pub carry-requires : goal.carry-requires
-carry-requires c =
-    let beside : let a = c.args in
-    Beside (entries_of a.program.now a.entries.now) a.ends.now (lines_of a.master.now a.nodes.now)
-    a.work.now a.out.now a.view.now c.judge_view-view_step.new.lines c.judge_view-view_step.result = judged_beside c.requires c.args.view.now _ _ c.judge_view-view_step.ensures in
-    beside.carriable _ c.in-Goes.is
+carry-requires c = carriable c.requires c.args.view.now c.in_ok-lines.ensures
 
-pub returns-in-Refused : goal.returns-in-Refused
-returns-in-Refused c =
-    let beside : let a = c.args in
-    Beside (entries_of a.program.now a.entries.now) a.ends.now (lines_of a.master.now a.nodes.now)
-    a.work.now a.out.now a.view.now c.judge_view-view_step.new.lines c.judge_view-view_step.result = judged_beside c.requires c.args.view.now _ _ c.judge_view-view_step.ensures in
-    beside.refuses _ c.in-Refused.is
-
-pub returns-in-Goes : goal.returns-in-Goes
-returns-in-Goes c =
-    let beside : let a = c.args in
-    Beside (entries_of a.program.now a.entries.now) a.ends.now (lines_of a.master.now a.nodes.now)
-    a.work.now a.out.now a.view.now c.judge_view-view_step.new.lines c.judge_view-view_step.result = judged_beside c.requires c.args.view.now _ _ c.judge_view-view_step.ensures in
-    beside.settles _ c.in-Goes.is _ _ c.carry.ensures
+pub returns : goal.returns
+returns c = carried_compares c.requires c.args.view.now c.in_ok-lines.ensures _ _ c.carry.ensures

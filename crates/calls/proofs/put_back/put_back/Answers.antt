@@ -1,28 +1,20 @@
 -- Reply 1 where there is no room; else what the judging settles, with the work room cleared.
 use native.Mathlib.Omega.{arith}
-use borrow.Rule.Slice.PartMut.{drop_put}
 use Rattle.calls.specs.Judging.{judged_put_back}
-use Rattle.calls.specs.Outcomes.{work_room, put_back_call}
-use Rattle.calls.specs.Theorems.Settled.{short_out, short_work, settled_call}
+use Rattle.calls.specs.Outcomes.{put_back_call}
+use Rattle.calls.specs.Theorems.Settled.{short_either, settled_clears}
 use Rattle.calls.proofs.put_back.put_back.Goals as goal
 
 pub returns-then-out-lt-OUT_ROOM : goal.returns-then-out-lt-OUT_ROOM
 unfolding put_back_call
 returns-then-out-lt-OUT_ROOM c =
-    let short = c.if-out-lt-OUT_ROOM.true in
-    short_out (judged_put_back c.args.master.now c.args.program.now c.args.view.now) c.args.out.now c.args.work.now _ c.refuse.ensures (omega arith)
-
-pub returns-then-work-lt-WORK_ROOM : goal.returns-then-work-lt-WORK_ROOM
-unfolding put_back_call
-returns-then-work-lt-WORK_ROOM c =
-    let short = c.if-work-lt-WORK_ROOM.true in
-    short_work (judged_put_back c.args.master.now c.args.program.now c.args.view.now) c.args.out.now c.args.work.now _ c.refuse-then-work-lt-WORK_ROOM.ensures (omega arith)
+    let judged = judged_put_back c.args.master.now c.args.program.now c.args.view.now in
+    short_either judged c.args.out.now c.args.work.now _ c.of.ensures c.then-out-lt-OUT_ROOM.either
 
 pub returns : goal.returns
 unfolding put_back_call
 returns c =
-    let out = c.if-out-lt-OUT_ROOM.false in
-    let work = c.if-work-lt-WORK_ROOM.false in
-    let beyond = drop_put 0 work_room c.args.work.now c.judged_put_back-reply.new.work (omega arith) (omega arith) (omega arith) in
-    rw c.fill.ensures
-    (settled_call (judged_put_back c.args.master.now c.args.program.now c.args.view.now) c.args.out.now _ c.args.work.now _ _ (omega arith) (omega arith) beyond c.judged_put_back-reply.ensures)
+    let zeros = c.fill.ensures.after (λ x e. e) in
+    let judged = judged_put_back c.args.master.now c.args.program.now c.args.view.now in
+    settled_clears judged c.args.out.now _ c.args.work.now _ _ _ (omega arith) (omega arith) (omega arith) zeros
+    c.judged_put_back-reply.ensures

@@ -10,7 +10,7 @@ pub returns-then-out-lt-OUT_ROOM : goal.returns-then-out-lt-OUT_ROOM
 unfolding put_back_in_c put_back_call
 returns-then-out-lt-OUT_ROOM c =
     let a = c.args in
-    let left = short_in_c (judged_put_back a.master.now a.program.now a.view.now) a.out.now _ _ c.in_one.ensures c.refuse.ensures (omega arith) in
+    let left = short_in_c (judged_put_back a.master.now a.program.now a.view.now) a.out.now _ _ c.in_one.ensures c.of.ensures (omega arith) in
     record { packs = left.0; reads = left.1 }
 
 pub returns : goal.returns

@@ -1,6 +1,5 @@
 -- The levels left fall from a combinator to what it runs; the run and the test stand above the combinators of their level.
 use Rattle.std.proofs.Common.{◌+◌, ◌-◌, ◌*◌}
-use Rattle.lines.specs.Engine.Starts.{entries_of, lines_of}
 use Rattle.runs.proofs.PutEach.{Going}
 use Rattle.runs.proofs.put.+putting.Given as goal
 
@@ -23,14 +22,17 @@ abbrev pub decreases-put_each : goal.decreases-put_each
 decreases-put_each l = 2 * l.at.levels
 
 abbrev pub decreases-put_test : goal.decreases-put_test
-decreases-put_test l = 2 * l.at.levels
+decreases-put_test l = 2 * l.at.levels + 1
+
+abbrev pub decreases-put_equals : goal.decreases-put_equals
+decreases-put_equals l = 2 * l.at.levels
 
 abbrev pub decreases-put_within : goal.decreases-put_within
 decreases-put_within l = 2 * l.at.levels
 
 abbrev pub invariant-put_each-loop-done : goal.invariant-put_each-loop-done
 invariant-put_each-loop-done l =
-    Going (entries_of l.prog l.entries) (lines_of l.master l.nodes) l.initial.work l.initial.marks l.at.slots l.at.entry l.at.start l.at.len l.at.view l.at.vlen l.at.top l.work l.marks l.done l.seen
+    Going l.inputs.entries l.inputs.nodes l.initial.work l.initial.marks l.at.slots l.at.entry l.at.source.start l.at.source.len l.at.view.start l.at.view.len l.at.top l.work l.marks l.done l.seen
 
 abbrev pub decreases-put_each-loop-done : goal.decreases-put_each-loop-done
-decreases-put_each-loop-done l = l.len - l.done
+decreases-put_each-loop-done l = l.at.source.len - l.done

@@ -1,6 +1,5 @@
 -- The levels left fall from a combinator to what it runs; the run and the test stand above the combinators of their level.
-use Rattle.std.proofs.Common.{◌+◌, ◌-◌, ◌*◌}
-use Rattle.lines.specs.Engine.Starts.{entries_of, lines_of}
+use Rattle.std.proofs.Common.{◌+◌, ◌*◌}
 use Rattle.runs.proofs.ShowEach.{Going}
 use Rattle.runs.proofs.show.+showing.Given as goal
 
@@ -31,10 +30,10 @@ decreases-test l = 2 * l.at.levels + 1
 abbrev pub decreases-test_equals : goal.decreases-test_equals
 decreases-test_equals l = 2 * l.at.levels
 
--- what the items before `done` gave stands at `top`
-abbrev pub invariant-show_each-loop-done : goal.invariant-show_each-loop-done
-invariant-show_each-loop-done l =
-    Going (entries_of l.prog l.entries) (lines_of l.master l.nodes) l.initial.work l.at.slots l.at.entry l.at.start l.at.len l.at.top l.work l.done l.n
+-- what the items before the rest gave stands at `top`
+abbrev pub invariant-show_each-loop-rest : goal.invariant-show_each-loop-rest
+invariant-show_each-loop-rest l =
+    Going l.inputs.entries l.inputs.nodes l.initial.work l.at.slots l.at.entry l.at.source.start l.at.source.len l.at.top l.work l.rest.start l.rest.len l.n
 
-abbrev pub decreases-show_each-loop-done : goal.decreases-show_each-loop-done
-decreases-show_each-loop-done l = l.len - l.done
+abbrev pub decreases-show_each-loop-rest : goal.decreases-show_each-loop-rest
+decreases-show_each-loop-rest l = l.rest.len

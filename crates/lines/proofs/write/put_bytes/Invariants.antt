@@ -1,0 +1,8 @@
+-- After `i` bytes the first `i` stand from `pos` on.
+use Rattle.std.proofs.Common.{◌≡◌, take}
+use Rattle.std.proofs.lemmas.List.Edits.{sets}
+use Rattle.lines.specs.Hex.{encode}
+use Rattle.lines.proofs.write.put_bytes.Given as goal
+
+abbrev pub invariant-loop-i : goal.invariant-loop-i
+invariant-loop-i l = l.out ≡ sets l.initial.out l.pos (encode (take l.i l.bytes))
