@@ -1,4 +1,4 @@
--- The line of a word: its head by the half that the origin lies in, its text from the lookup; and the lines of a view, word by word.
+-- The line of a word: its text from the lookup; and the lines of a view, word by word.
 use mathlib.Core.Path.{◌≡◌, refl, sym, ◌∙◌, ap, ap₂}
 use mathlib.Core.Bool.{true}
 use mathlib.Core.List.{List, [], ◌∷◌}

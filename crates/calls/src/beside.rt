@@ -13,7 +13,7 @@ use runs::inputs::Inputs;
 const CHANGED: u8 = Mark::Changed as u8;
 
 // The first line at which the view differs from the fresh one; given up inside a line's bytes at the first difference. The bytes are looked at in the order of `same_text`.
-// Stays: the lines are counted by hand, since a loop that is left with the place is no `for`.
+// Stays: the loop over the lines is left by its label with the place, which a rule of the project asks for.
 pub fn difference(inputs: &Inputs, work: &[u32], shown: usize, view: &NodeLines) -> Option<usize>
     requires { ShownWords inputs.now.entries work.now shown }
     ensures { result ≡ first_difference view.now (view_lines inputs.now.entries inputs.now.nodes work.now shown) }
@@ -55,6 +55,7 @@ pub fn mark_counted(inputs: &Inputs, word: u32, line: &NodeLine) -> u8
     ensures { let fresh = word_line inputs.now.entries inputs.now.nodes word in result ≡ (counted_line fresh line.now).mark }
 {
     let mark = line.mark();
+    // Stays: the bytes of marks are compared; through Mark::of no arm proves by itself, and four answers are needed in place of two.
     if mark == Mark::Changed as u8 && line.text().is_same(&inputs.text(word)) {
         return Mark::Untouched as u8;
     }

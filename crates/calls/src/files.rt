@@ -21,6 +21,7 @@ pub fn judge_program<'a>(
 {
     let n = scan_lines(File::Program, program, starts).map_err(Refusal::ProgramLine)?;
     let entries = EntryLines::new(program, &starts[0..n]);
+    // Stays: matched, since behind `map_err` the bound of the entry is not known.
     match check_program(&entries, ends) {
         Ok(_) => Ok(entries),
         Err(entry) => Err(Refusal::ProgramTree(entry)),
@@ -28,6 +29,7 @@ pub fn judge_program<'a>(
 }
 
 // A mark is a fault only where the master is put back to.
+// Stays: a bool, since the rule of specs/Judging is `master_rule putting`.
 fn master_fault(nodes: &NodeLines, putting: bool) -> Option<usize>
     ensures { result ≡ master_rule putting nodes.now }
 {

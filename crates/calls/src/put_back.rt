@@ -7,10 +7,10 @@ ghost use Rattle.calls.specs.Judging.{judged_put_back};
 ghost use Rattle.calls.specs.Outcomes.{out_room, outcome, put_back_call};
 ghost use Rattle.calls.specs.Engine.Parts.{put_back_room, Settles, SettledBy, Carriable, CarriedBack, Comparable, ComparedBack};
 
-use crate::reach::reach;
+use crate::reach::{Places, reach};
 use crate::refusal::Refusal;
 use crate::reply::Reply;
-use crate::room::{ENTRIES, HANDED, LINES, OUT_ROOM, SHOWN, WORK_ROOM};
+use crate::room::{HANDED, LINES, OUT_ROOM, SHOWN, WORK_ROOM};
 use crate::view_in::{bring_view, judge_view};
 use crate::write_master::write_master;
 use lines::node::NodeLines;
@@ -80,18 +80,8 @@ fn write_handed_back(
     requires { (out_room ≤ length out.old) × (put_back_room ≤ length work.old) }
     ensures { SettledBy (judged_put_back master.now program.now view.now) out.old out.new result }
 {
-    let mut starts = [0u16; LINES];
-    let mut ends = [0u8; ENTRIES];
-    let mut places = [0u16; LINES];
-    let reached = reach(
-        master,
-        program,
-        true,
-        &mut starts,
-        &mut ends,
-        &mut places,
-        work,
-    )?;
+    let mut places = Places::new();
+    let reached = reach(master, program, true, &mut places, work)?;
     compared(&reached.inputs, reached.shown, view, out, work)
 }
 

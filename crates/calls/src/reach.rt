@@ -1,9 +1,10 @@
 // Replies 2 to 7, which showing and putting back judge first.
-ghost use Rattle.std.specs.Prelude.{◌≤◌, length};
+ghost use Rattle.std.specs.Prelude.{◌≡◌, ◌≤◌, length, replicate};
 ghost use Rattle.calls.specs.Engine.Parts.{show_room, ReachedBy};
 
 use crate::files::{judge_master, judge_program};
 use crate::refusal::Refusal;
+use crate::room::{ENTRIES, LINES};
 use crate::run_program::run_program;
 use runs::inputs::Inputs;
 
@@ -14,23 +15,45 @@ pub struct Reached<'a> {
     pub shown: usize,
 }
 
-// The entries begin at the places left in `starts`, the master's lines at those in `places`; leaves in the work slice the source and what is shown.
-// Stays: three slices and no struct of them, whose fields could not be lent apart behind a reference.
+// What a call's own arrays hold: where the program's entries begin, the place behind each one's subtree, and where the master's lines begin.
+#[derive(Drop)]
+pub struct Places {
+    pub starts: [u16; LINES],
+    pub ends: [u8; ENTRIES],
+    pub lines: [u16; LINES],
+}
+
+impl Places {
+    pub fn new() -> Places
+        ensures { result ≡ record { starts = replicate 128 0; ends = replicate 96 0; lines = replicate 128 0 } }
+    {
+        Places {
+            starts: [0; LINES],
+            ends: [0; ENTRIES],
+            lines: [0; LINES],
+        }
+    }
+}
+
+// Leaves in the work slice the source and what is shown.
+// Stays: whether it is put back to is a bool, as in the rule of specs/Judging.
 pub fn reach<'a>(
     master: &'a [u8],
     program: &'a [u8],
     putting: bool,
-    starts: &'a mut [u16],
-    ends: &'a mut [u8],
-    places: &'a mut [u16],
+    places: &'a mut Places,
     work: &mut [u32],
 ) -> Result<Reached<'a>, Refusal>
-    requires in_bounds { (128 ≤ length starts.old) × (96 ≤ length ends.old) × (128 ≤ length places.old) }
     requires show_room_in_bounds { show_room ≤ length work.old }
     ensures { ReachedBy putting master.now program.now work.new result }
 {
+    let Places {
+        starts,
+        ends,
+        lines,
+    } = places;
     let entries = judge_program(program, starts, ends)?;
-    let nodes = judge_master(master, places, putting)?;
+    let nodes = judge_master(master, lines, putting)?;
     let ends = &ends[0..entries.len()];
     let inputs = Inputs {
         entries,

@@ -4,6 +4,7 @@ ghost use Rattle.calls.specs.Engine.Parts.{replied, Fits};
 
 use crate::refusal::Refusal;
 
+// Stays: a number, a place and a length, since the contracts of the calls and the C interface name these three.
 #[derive(Clone, Copy)]
 pub struct Reply {
     pub number: u8,

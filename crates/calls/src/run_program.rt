@@ -17,6 +17,7 @@ fn load(nodes: &NodeLines, work: &mut [u32])
     requires { (length nodes.now ≤ 128) × (128 ≤ length work.old) }
     ensures { work.new ≡ put_at work.old 0 (source_words 0 nodes.now) }
 {
+    // Stays: the lines are read by their number, and a word is a number of 32 bits in the lent slice, put together here.
     for k in 0..nodes.len() {
         work[k] = nodes.line(k).depth() as u32 * LEVEL + k as u32;
     }

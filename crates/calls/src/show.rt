@@ -4,10 +4,10 @@ ghost use Rattle.calls.specs.Judging.{judged_show};
 ghost use Rattle.calls.specs.Outcomes.{out_room, outcome, show_call};
 ghost use Rattle.calls.specs.Engine.Parts.{show_room, Settles, SettledBy};
 
-use crate::reach::reach;
+use crate::reach::{Places, reach};
 use crate::refusal::Refusal;
 use crate::reply::Reply;
-use crate::room::{ENTRIES, LINES, OUT_ROOM, WORK_ROOM};
+use crate::room::{OUT_ROOM, WORK_ROOM};
 use crate::view_out::write_view;
 
 // The place behind the lines of what is shown.
@@ -20,18 +20,8 @@ fn write_shown(
     requires { (out_room ≤ length out.old) × (show_room ≤ length work.old) }
     ensures { SettledBy (judged_show master.now program.now) out.old out.new result }
 {
-    let mut starts = [0u16; LINES];
-    let mut ends = [0u8; ENTRIES];
-    let mut places = [0u16; LINES];
-    let reached = reach(
-        master,
-        program,
-        false,
-        &mut starts,
-        &mut ends,
-        &mut places,
-        work,
-    )?;
+    let mut places = Places::new();
+    let reached = reach(master, program, false, &mut places, work)?;
     Ok(write_view(&reached.inputs, work, reached.shown, out))
 }
 

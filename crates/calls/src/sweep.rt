@@ -32,6 +32,7 @@ fn judged_sweep(master: &[u8], out: &mut [u8], numbers: &mut [u8]) -> Reply
     Reply::of(write_both(master, out, numbers))
 }
 
+// Stays: the test of room is not shared with the other calls, which are lent a work slice and not a second output.
 pub fn sweep(master: &[u8], out: &mut [u8], numbers: &mut [u8]) -> Reply
     ensures { outcome result.number result.place result.length out.new numbers.new
         ≡ sweep_call master.now out.old numbers.old }

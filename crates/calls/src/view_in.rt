@@ -43,6 +43,7 @@ fn sum_texts(view: &NodeLines, sums: &mut [u32])
     requires { length view.now ≤ length sums.old }
     ensures { Summed view.now sums.new }
 {
+    // Stays: the lines are read by their number.
     for k in 0..view.len() {
         sums[k] = view.line(k).text().sum();
     }
@@ -71,6 +72,7 @@ fn brought(inputs: &Inputs, word: u32, view: &NodeLines, sums: &[u32], i: usize)
         result ≡ brought_word view.now (counted_line fresh (line_at view.now i)) }
 {
     let mark = mark_counted(inputs, word, &view.line(i));
+    // Stays: the bytes of marks are compared, as in `mark_counted`.
     if mark == Mark::Changed as u8 {
         return CHANGED + first_same(view, sums, i) as u32;
     }
@@ -88,6 +90,7 @@ pub fn bring_view(inputs: &Inputs, view: &NodeLines, work: &mut [u32])
 {
     let mut sums = [0u32; LINES];
     sum_texts(view, &mut sums);
+    // Stays: the words lie behind SHOWN in the lent slice, and the lines are read by their number.
     for i in 0..view.len() {
         let word = work[SHOWN + i];
         work[SHOWN + i] = brought(inputs, word, view, &sums, i);

@@ -7,6 +7,7 @@ ghost use Rattle.calls.specs.Engine.Parts.{word_line, view_lines, ViewRoom};
 
 use crate::room::SHOWN;
 use lines::kind::{Kind, Mark};
+use lines::node::PROGRAM_NUMBER;
 use lines::write::{Head, write_line};
 use runs::inputs::Inputs;
 use values::nodes::{WordOrigin, depth_of, origin_of};
@@ -30,9 +31,9 @@ pub fn head_of(inputs: &Inputs, word: u32) -> Head
         }
         WordOrigin::Master(number) => unmarked_head(depth, Kind::Text as u8, number),
         WordOrigin::Program(_) if inputs.is_element(word) => {
-            unmarked_head(depth, Kind::Element as u8, 0xFFFF)
+            unmarked_head(depth, Kind::Element as u8, PROGRAM_NUMBER)
         }
-        WordOrigin::Program(_) => unmarked_head(depth, Kind::Text as u8, 0xFFFF),
+        WordOrigin::Program(_) => unmarked_head(depth, Kind::Text as u8, PROGRAM_NUMBER),
     }
 }
 
@@ -62,6 +63,7 @@ pub fn write_view(inputs: &Inputs, work: &[u32], shown: usize, out: &mut [u8]) -
     ensures { WroteLines (view_lines inputs.now.entries inputs.now.nodes work.now shown) out.old out.new result }
 {
     let mut pos = 0;
+    // Stays: the words lie behind SHOWN in the lent slice.
     for i in 0..shown {
         pos = write_word(inputs, work[SHOWN + i], out, pos);
     }

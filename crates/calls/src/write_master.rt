@@ -61,6 +61,7 @@ pub fn write_master(nodes: &NodeLines, view: &NodeLines, work: &[u32], out: &mut
     ensures { WroteLines (handed_lines nodes.now view.now work.now) out.old out.new result }
 {
     let mut pos = 0;
+    // Stays: the words lie behind HANDED in the lent slice, and the lines are read by their number.
     for k in 0..nodes.len() {
         let standing = work[HANDED + k];
         pos = write_handed(&nodes.line(k), view, standing, out, pos);

@@ -20,7 +20,7 @@ use Rattle.lines.specs.Entries.{rows, row_of, text_form, operand_form, entry_for
 use Rattle.lines.specs.Files.{form_of}
 use Rattle.lines.specs.Theorems.Lists.{take_rest}
 use Rattle.lines.proofs.Theorems.Widths.{text_some}
-use Rattle.lines.proofs.Theorems.Pairs.{length_decode, get_d_decode, decode_pair, decode_end, drop_decode}
+use Rattle.lines.proofs.Theorems.Pairs.{length_decode, get_d_decode, decode_end, drop_decode}
 use Rattle.lines.specs.Engine.Starts.{pair_at}
 
 -- a line of whole pairs and 0A has the form if its bytes have it: no byte at all is no form

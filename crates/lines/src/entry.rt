@@ -62,6 +62,7 @@ impl<'a> EntryLine<'a> {
 }
 
 // The entries whose lines begin at `starts`.
+// Stays: apart from `NodeLines`, as a clause sees other values: the two read a file differently by its starts.
 #[derive(Drop)]
 pub struct EntryLines<'a> {
     bytes: &'a [u8],

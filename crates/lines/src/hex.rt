@@ -4,7 +4,7 @@ ghost use Rattle.lines.specs.Hex.{is_hex, hex_value, hex_digit};
 ghost use Rattle.lines.specs.Engine.Starts.{pair_at};
 ghost use Rattle.lines.specs.Engine.Digits.{digit_row};
 
-// A digit's value and 16 more; 0 for any other byte. Stays one number: every byte of every file is looked up here.
+// Stays: one number, a digit's value and 16 more, 0 for any other byte: every byte of every file is looked up here.
 const DIGITS: [u8; 256] = *b"\
     \x00\x00\x00\x00\x00\x00\x00\x00\x00\x00\x00\x00\x00\x00\x00\x00\
     \x00\x00\x00\x00\x00\x00\x00\x00\x00\x00\x00\x00\x00\x00\x00\x00\

@@ -8,9 +8,13 @@ ghost use Rattle.lines.specs.Engine.Writes.{headed};
 
 use crate::form::is_element;
 use crate::hex::pair_at;
+use crate::kind::Mark;
 use crate::text::Text;
 use crate::write::Head;
 use std::marker::Model;
+
+// A node that the program made has this number.
+pub const PROGRAM_NUMBER: u16 = 0xFFFF;
 
 // The line of one node, which begins at `start`.
 #[derive(Drop)]
@@ -42,6 +46,7 @@ impl<'a> NodeLine<'a> {
         pair_at(self.bytes, self.start as usize)
     }
 
+    // Stays: a byte, as the line may have any there; with `Kind::of` it is one of the kinds or none.
     #[tactic(auto, unfolding(crate::specs::Engine::Starts::node_at))]
     pub fn kind(&self) -> u8
         ensures { result ≡ self.now.kind }
@@ -49,6 +54,7 @@ impl<'a> NodeLine<'a> {
         pair_at(self.bytes, self.start as usize + 2)
     }
 
+    // Stays: a byte, like the kind.
     #[tactic(auto, unfolding(crate::specs::Engine::Starts::node_at))]
     pub fn mark(&self) -> u8
         ensures { result ≡ self.now.mark }
@@ -82,7 +88,7 @@ impl<'a> NodeLine<'a> {
     fn is_marked(&self) -> bool
         ensures { result ≡ is_marked self.now }
     {
-        self.mark() != 0
+        self.mark() != Mark::Untouched as u8
     }
 
     // Whether the program made the node and the line carries a mark.
@@ -90,7 +96,7 @@ impl<'a> NodeLine<'a> {
     fn is_program_marked(&self) -> bool
         ensures { result ≡ program_marked self.now }
     {
-        self.number() == 0xFFFF && self.is_marked()
+        self.number() == PROGRAM_NUMBER && self.is_marked()
     }
 
     // Whether depth, kind and number are those of the head.
@@ -123,6 +129,7 @@ impl<'a> NodeLine<'a> {
 }
 
 // The lines that begin at `starts`.
+// Stays: apart from `EntryLines`, as a clause sees other values: the two read a file differently by its starts.
 #[derive(Drop)]
 pub struct NodeLines<'a> {
     bytes: &'a [u8],

@@ -43,10 +43,10 @@ fn line_end(s: &[u8], at: usize) -> Option<usize>
     requires { at ≤ length s.now }
     ensures { result ≡ pairs_end s.now at }
 {
-    // A loop over places: `position` over the same bytes takes nearly twice as long.
+    // Stays: a loop over places, as `position` over the same bytes takes nearly twice as long.
     for i in at..s.len() {
         if !is_hex(s[i]) {
-            if (i - at) % 2 == 0 && s[i] == 0x0A {
+            if (i - at) % 2 == 0 && s[i] == b'\n' {
                 return Some(i + 1);
             }
             return None;

@@ -72,6 +72,7 @@ impl<'a> Text<'a> {
     }
 
     // A number that two texts share if they are the same: others seldom do, even with the same bytes in another order, by the factor.
+    // Stays: a remainder in 64 bits, as the clauses say it: what wraps in 32 would have to be shown the same.
     pub fn sum(&self) -> u32
         ensures { result ≡ text_sum self.now }
     {
@@ -87,7 +88,7 @@ impl<'a> Text<'a> {
         ensures { result ≡ length (trimmed self.now) }
     {
         for j in (0..self.len()).rev() {
-            if self.byte(j) != 0x20 {
+            if self.byte(j) != b' ' {
                 return j + 1;
             }
         }

@@ -9,6 +9,7 @@ use crate::hex::hex_digit;
 use crate::text::Text;
 
 // A line's fields before its text.
+// Stays: kind and mark are bytes, as a line that was read may have any there, and it is answered for.
 #[derive(Clone, Copy)]
 pub struct Head {
     pub depth: u8,
@@ -37,6 +38,7 @@ pub fn put_bytes(out: &mut [u8], pos: usize, bytes: &[u8])
 }
 
 // Digit by digit, as it stands there.
+// Stays: an index, as a text's digits are no slice to zip with: where the file ends, digits 0 stand for the rest.
 fn put_text(out: &mut [u8], pos: usize, text: &Text)
     requires { pos + 2 * length text.now ≤ length out.old }
     ensures { out.new ≡ sets out.old pos (encode text.now) }

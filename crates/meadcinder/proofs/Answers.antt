@@ -1,7 +1,7 @@
 -- From what a call leaves to the answer in one number, packed and read.
 use Prim.Native.Nat.{ℕ, ◌+◌, ◌*◌, ◌≤◌, ◌<◌}
 use native.Mathlib.Omega.{arith}
-use mathlib.Core.Path.{◌≡◌, ap}
+use mathlib.Core.Path.{◌≡◌, refl, ap}
 use mathlib.Core.List.{List}
 use lib.ListN.{length, length-replicate}
 use Rattle.lines.specs.Nodes.{Line}
@@ -40,4 +40,4 @@ module _ (judged : Judged (List Line)) (out : List ℕ) (r : Reply) (answer : �
   unfolding as_read both_as_read cleared
   settled_in_c out' room h =
       let long = length-replicate {A = ℕ} work_room 0 in
-      answered _ r answer out' own_work one (rw (put_over own_work) at (settled_call judged out out' own_work r room (omega arith) h))
+      answered _ r answer out' own_work one (rw (put_over own_work) at (settled_call judged out out' own_work own_work r room (omega arith) refl h))

@@ -20,6 +20,7 @@ fn returned(files: &impl Files, out: &mut [u8]) -> io::Result<Reply> {
     Ok(put_back(master, program, view, out, &mut work))
 }
 
+// Stays: like the main of show; one helper for both, lent the call as a closure, is no plainer.
 fn main(rt: HostRuntime) -> io::Result<()> {
     let mut to = io::writer(&rt);
     let mut out = [0u8; OUT_ROOM];

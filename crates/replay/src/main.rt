@@ -61,6 +61,7 @@ impl TryFrom<u8> for Call {
 
 // The call of a case, the rooms of what is lent to it, and the lengths of its files. Of `work` and `numbers` one is 0:
 // a sweep is lent a second output, the other calls a work slice.
+// Stays: two sizes beside the call, since sizes in the cases of Call would have to be matched out again where each is lent.
 #[derive(Drop)]
 struct Head {
     call: Call,

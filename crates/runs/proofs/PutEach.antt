@@ -19,7 +19,7 @@ use Rattle.runs.specs.Results.{Result, gives}
 use Rattle.runs.specs.Programs.{Transformation, each}
 use Rattle.runs.specs.Showing.{Slots, Shown, in_turn, show}
 use Rattle.runs.specs.PuttingBack.{SlotStandings, Back, back, value_of, over_items, put_back}
-use Rattle.runs.specs.Engine.Runs.{Begun, made_by, lookup_of, slots_at, Space, PutSpace, Seen, PutBy}
+use Rattle.runs.specs.Engine.Runs.{Begun, made_by, lookup_of, slots_at, PutSpace, Seen, PutBy}
 use Rattle.runs.specs.Engine.Trees.{Stands}
 use Rattle.runs.specs.Theorems.Inversion.{on_turn}
 use Rattle.runs.specs.Theorems.Lengths.{fitted_same}
@@ -29,7 +29,7 @@ use Rattle.runs.proofs.PutWords.{Holds, holds_length, holds_frame, holds_join, h
 use Rattle.runs.proofs.PutSlots.{SlotsHold}
 use Rattle.runs.specs.Theorems.RunAnswers.{Got, Halted}
 use Rattle.runs.proofs.ShowEach.{ItemAt, first_item}
-use Rattle.runs.proofs.PutRuns.{HandsBack, put_by, by_put, on_long, gives_long, got_size, got_seen, not_stopped, put_space, show_space}
+use Rattle.runs.proofs.PutRuns.{HandsBack, put_by, by_put, on_long, gives_long, got_size, got_seen, not_stopped, put_space}
 
 -- ## The rule, item by item
 
@@ -138,11 +138,6 @@ module _ {entries : List Entry} {lines : List Line} {ends w₀ marks₀ : List �
         × (in_turn entry m (map (run X) (rest (at + k))) ≡ gives b) × (length a.value + length b.value ≡ vlen - done))
         entry s.0 (run X item) (map (run X) (rest (at + k))) s.1 (sym (ap (λ (is : List Value). in_turn entry s.0 (map (run X) is)) cut_items) ∙ s.2)
         (λ a b p _ q l. (a, b, s.0 + length a.value, p, q, sym (length-append a.value b.value) ∙ l)) s.3
-
-    pub item_space : Space w slots (start + at) k (top + 128) (levels - 1)
-    item_space =
-        let two = begun.two in
-        show_space begun.room g.long (omega arith) (omega arith) (omega arith) (omega arith)
 
     -- the item in the slice as it is now
     item_now : (value_at (made_by entries) w (start + at) k ≡ item) × (slots_at (made_by entries) w slots ≡ slots_at (made_by entries) w₀ slots)

@@ -33,6 +33,7 @@ impl<'a> Inputs<'a> {
             }
             WordOrigin::Program(e) => {
                 let e = e as usize;
+                // Stays: 04 is the table's byte, the one operation that makes an element.
                 e < self.entries.len() && self.entries.entry(e).operation() == 0x04
             }
         }

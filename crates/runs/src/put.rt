@@ -1,5 +1,5 @@
 // Putting back: the view's standings, an extent below top, become those of the source, at top; those of the slots stand in `marks`.
-ghost use Rattle.std.specs.Prelude.{[], ◌∷◌, ◌≡◌, true, ◌+◌, ◌-◌, ◌≤◌, length, get_or, replicate};
+ghost use Rattle.std.specs.Prelude.{[], ◌∷◌, ◌≡◌, true, ◌+◌, ◌-◌, ◌≤◌, length, replicate};
 ghost use Rattle.lines.specs.Writing.{put_at};
 ghost use Rattle.values.specs.Values.{among};
 ghost use Rattle.values.specs.Engine.Words.{LiesIn, part};
@@ -41,8 +41,8 @@ fn put_slot(work: &mut [u32], marks: &mut [u32], at: At, byte: u8)
     ensures work_after { work.new ≡ put_at work.old at.top (replicate at.source.len 0) }
     ensures marks_after { marks.new ≡ merged_at marks.old at.slots (bound_to at.slots byte) work.old at.view.start }
 {
-    let k = at.slots.find(byte).unwrap();
-    merge_from(marks, VALUE_ROOM * k, work, at.view);
+    let place = at.slots.find(byte).unwrap();
+    merge_from(marks, VALUE_ROOM * place, work, at.view);
     put_nothing(work, at);
 }
 
@@ -113,16 +113,16 @@ fn put_and_then(inputs: &Inputs, work: &mut [u32], marks: &mut [u32], at: At)
     ensures { PutAt inputs.now.entries inputs.now.nodes work.old marks.old at work.new marks.new }
 {
     let x1 = at.entry + 1;
-    if let Ok(v) = show(inputs, work, at.below(x1)) {
+    if let Ok(first) = show(inputs, work, at.below(x1)) {
         let top = at.top;
         let above = top + VALUE_ROOM;
-        let over = at.below_on(inputs.after(x1), v, above);
+        let over = at.below_on(inputs.after(x1), first, above);
         put(inputs, work, marks, over);
         let far = top + PUT_ROOM;
         let under = at.below_on(x1, at.source, far);
         let view = Extent {
             start: above,
-            len: v.len,
+            len: first.len,
         };
         put(inputs, work, marks, under.seeing(view));
         let back = Extent {
@@ -141,11 +141,11 @@ fn put_beside(inputs: &Inputs, work: &mut [u32], marks: &mut [u32], at: At)
 {
     let x1 = at.entry + 1;
     let x2 = inputs.after(x1);
-    if let Ok(v) = show(inputs, work, at.below(x1)) {
-        if let Ok(u) = show(inputs, work, at.below(x2)) {
+    if let Ok(one) = show(inputs, work, at.below(x1)) {
+        if let Ok(other) = show(inputs, work, at.below(x2)) {
             let second = Extent {
-                start: at.view.start + v.len,
-                len: u.len,
+                start: at.view.start + one.len,
+                len: other.len,
             };
             let over = at.below(x2);
             put(inputs, work, marks, over.seeing(second));
@@ -154,7 +154,7 @@ fn put_beside(inputs: &Inputs, work: &mut [u32], marks: &mut [u32], at: At)
             let under = at.below_on(x1, at.source, above);
             let first = Extent {
                 start: at.view.start,
-                len: v.len,
+                len: one.len,
             };
             put(inputs, work, marks, under.seeing(first));
             let back = Extent {
@@ -184,23 +184,20 @@ fn put_each(inputs: &Inputs, work: &mut [u32], marks: &mut [u32], at: At)
             start: from,
             len: at.source.len - done,
         };
-        let k = first_item(rest.words(work));
-        let source = Extent {
-            start: from,
-            len: k,
-        };
+        let len = first_item(rest.words(work));
+        let source = Extent { start: from, len };
         let item = at.below_on(x, source, above);
-        let Ok(v) = show(inputs, work, item) else {
+        let Ok(shown) = show(inputs, work, item) else {
             return;
         };
         let view = Extent {
             start: at.view.start + seen,
-            len: v.len,
+            len: shown.len,
         };
         let back = at.below_on(x, source, top + done);
         put(inputs, work, marks, back.seeing(view));
-        done += k;
-        seen += v.len;
+        done += len;
+        seen += shown.len;
     }
 }
 
@@ -245,6 +242,7 @@ fn put_test(inputs: &Inputs, work: &mut [u32], marks: &mut [u32], at: At)
     requires asked_at { AskedAt inputs.now.entries inputs.now.nodes work.old at }
     ensures { TestPutAt inputs.now.entries inputs.now.nodes work.old marks.old at work.new marks.new }
 {
+    // Stays: the operation is the table's byte, as at a test that is shown.
     match inputs.entry(at.entry).operation() {
         0x11 => put_equals(inputs, work, marks, at),
         _ => {}

@@ -61,6 +61,7 @@ fn show_made(work: &mut [u32], at: At) -> Run
     requires { at.top < length work.old }
     ensures { (made : Made) → LeavesAt made work.old at work.new result (gives (node_of made (0x8000 + at.entry) ∷ [])) }
 {
+    // Stays: a word is a number of 32 bits in the lent slice, put together here.
     work[at.top] = PROGRAM + at.entry as u32;
     Ok(Extent {
         start: at.top,

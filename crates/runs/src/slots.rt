@@ -14,6 +14,7 @@ pub struct Slot {
 }
 
 // The first `count` of them are bound, the outermost first.
+// Stays: an array with a count, since memory is fixed and there is no heap.
 #[derive(Clone, Copy)]
 pub struct SlotWords {
     pub bound: [Slot; 4],

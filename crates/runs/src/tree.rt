@@ -14,6 +14,7 @@ use std::marker::Model;
 pub const LEVELS: u8 = 12;
 
 // What may still stand below an entry, and the slots bound there, the outermost first.
+// Stays: an array with a count, since memory is fixed and there is no heap.
 #[derive(Drop)]
 struct Room {
     eaches: u8,
@@ -56,6 +57,7 @@ impl Room {
     }
 
     // Whether an entry of this operation and slot byte may stand here: 0A and 0C while some are left, 05 inside a 0C of its slot.
+    // Stays: the operations are the bytes of the table, as the rules name them.
     #[tactic(auto, unfolding(crate::specs::Engine::Checking::may_stand))]
     fn may_stand(&self, operation: u8, byte: u8) -> bool
         ensures { result ≡ may_stand operation byte self.now }
@@ -108,6 +110,7 @@ impl Room {
 }
 
 // Whether the operation is a test where one is asked for, else a transformation.
+// Stays: a bool, since the rules read a tree where a test is asked for or a transformation.
 #[tactic(auto, unfolding(crate::specs::Engine::Ends::stands))]
 fn is_asked(operation: u8, test: bool) -> bool
     ensures { result ≡ stands test (class_of operation) }

@@ -60,6 +60,7 @@ pub fn print_unreadable<W: Write>(to: &mut W) -> io::Result<()>
 }
 
 // The first n bytes, where there are as many; whether there are.
+// Stays: a bool in the result, since callers are told whether there are as many, and an error is a failed write.
 pub fn print_first<W: Write>(to: &mut W, bytes: &[u8], n: usize) -> io::Result<bool>
     ensures value { IfOk result (λ first. IsTrue first ↔ (n ≤ length bytes.now)) }
     ensures first { OnOk result (n ≤ length bytes.now → Appends (W.contents to.old) (W.contents to.new) (take n bytes.now)) }

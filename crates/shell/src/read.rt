@@ -7,8 +7,7 @@ use std::io::Read;
 use std::rt::Files;
 use std::{fs, io};
 
-// The room of a master or a view, and of a program: one byte more than the longest legal file tells that a file is too
-// long.
+// The room of a master or a view, and of a program: one byte more than the longest legal file tells that a file is too long.
 pub const NODES_ROOM: usize = 9857;
 
 pub const PROGRAM_ROOM: usize = 6625;

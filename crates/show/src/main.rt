@@ -18,6 +18,7 @@ fn shown(files: &impl Files, out: &mut [u8]) -> io::Result<Reply> {
     Ok(show(master, program, out, &mut work))
 }
 
+// Stays: like the main of putback; one helper for both, lent the call as a closure, is no plainer.
 fn main(rt: HostRuntime) -> io::Result<()> {
     let mut to = io::writer(&rt);
     let mut out = [0u8; OUT_ROOM];

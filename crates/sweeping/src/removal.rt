@@ -2,9 +2,8 @@
 ghost use Rattle.std.specs.Prelude.{◌≡◌, None};
 ghost use Rattle.sweeping.specs.Sweeping.{is_under, is_deleted, goes, behind};
 
+use lines::kind::Mark;
 use lines::node::NodeLine;
-
-const DELETED_MARK: u8 = 2;
 
 // A walk over a master's lines: the depth of the deleted node that stands above the next one, if one does.
 #[derive(Clone, Copy)]
@@ -36,7 +35,7 @@ impl Removal {
         if self.is_over(line) {
             return true;
         }
-        let is_deleted = line.mark() == DELETED_MARK;
+        let is_deleted = line.mark() == Mark::Deleted as u8;
         self.above = is_deleted.then_some(line.depth());
         is_deleted
     }

@@ -4,6 +4,7 @@ ghost use Rattle.sweeping.specs.Sweeping.{swept};
 ghost use Rattle.sweeping.specs.Engine.Parts.{SweepRoom};
 
 use crate::removal::Removal;
+use lines::kind::Mark;
 use lines::node::NodeLines;
 use lines::write::{Head, write_line};
 
@@ -21,7 +22,7 @@ pub fn write_swept(nodes: &NodeLines, out: &mut [u8]) -> usize
             let head = Head {
                 depth: line.depth(),
                 kind: line.kind(),
-                mark: 0,
+                mark: Mark::Untouched as u8,
                 number: count,
             };
             pos = write_line(out, pos, head, &line.text());

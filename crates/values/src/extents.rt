@@ -10,7 +10,7 @@ pub const MOST_NODES: usize = 128;
 pub const VALUE_ROOM: usize = MOST_NODES;
 
 // Where a value's words lie.
-// Stays: an extent at a new place is written out, so that its fields compute in the proofs; a method's result would only equal them.
+// Stays: an extent at a new place is written out: a literal's fields compute in the proofs, a method's result is only equal to them.
 #[derive(Clone, Copy)]
 pub struct Extent {
     pub start: usize,

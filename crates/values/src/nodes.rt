@@ -1,4 +1,4 @@
-// Values: their top nodes, their first item, their depths.
+// Values: what their words say, their top nodes, their first item, their depths.
 ghost use Rattle.std.specs.Prelude.{◌≡◌, ℕ, map, ◌+◌, ◌/◌, ◌<◌, ◌≤◌, length};
 ghost use Rattle.lines.specs.Writing.{put_at};
 ghost use Rattle.values.specs.Values.{no_top, under, shallow};

@@ -35,6 +35,7 @@ fn merge_words(words: &mut [u32], others: &[u32])
     requires { length words.old ≡ length others.now }
     ensures { words.new ≡ merged_words words.old others.now }
 {
+    // Stays: an index for the others, as behind `iter_mut().zip(..)` a proof knows nothing of the elements.
     for (i, word) in words.iter_mut().enumerate() {
         *word = merge_word(*word, others[i]);
     }

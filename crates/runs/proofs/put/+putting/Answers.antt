@@ -259,27 +259,27 @@ put_each-show-requires-clause-ready_at t c = rw c.below_on-item.ensures (ready_e
 
 pub put_each-returns-in_default : goal.put_each-returns-in_default
 put_each-returns-in_default t c =
-    let f = item_at c.loop-done.work (c.args.at.source.start + c.loop-done.done) (c.args.at.source.len - c.loop-done.done) c.words.ensures (omega arith) c.first_item-k.ensures in
+    let f = item_at c.loop-done.work (c.args.at.source.start + c.loop-done.done) (c.args.at.source.len - c.loop-done.done) c.words.ensures (omega arith) c.first_item-len.ensures in
     absurd (item_goes c.requires c.loop-done.invariant c.loop-done-test.true f
     (halted (rw c.below_on-item.ensures at c.in_default.ensures)))
 
 pub put_each-put-requires : goal.put_each-put-requires
 put_each-put-requires t c =
-    let f = item_at c.loop-done.work (c.args.at.source.start + c.loop-done.done) (c.args.at.source.len - c.loop-done.done) c.words.ensures (omega arith) c.first_item-k.ensures in
+    let f = item_at c.loop-done.work (c.args.at.source.start + c.loop-done.done) (c.args.at.source.len - c.loop-done.done) c.words.ensures (omega arith) c.first_item-len.ensures in
     let g = got (rw c.below_on-item.ensures at c.in-Ok.ensures) c.show.auto.work in
     rw (c.seeing.ensures, c.below_on-back.ensures)
     (omega arith, (ready_each c.requires.ready c.requires.op, item_asks c.requires c.loop-done.invariant c.loop-done-test.true f g))
 
 pub put_each-loop-done-smaller : goal.put_each-loop-done-smaller
 put_each-loop-done-smaller t c =
-    let f = item_at c.loop-done.work (c.args.at.source.start + c.loop-done.done) (c.args.at.source.len - c.loop-done.done) c.words.ensures (omega arith) c.first_item-k.ensures in
+    let f = item_at c.loop-done.work (c.args.at.source.start + c.loop-done.done) (c.args.at.source.len - c.loop-done.done) c.words.ensures (omega arith) c.first_item-len.ensures in
     let k = f.long (made_by c.args.inputs.now.entries) in
-    let z : c.args.at.source.len - (c.loop-done.done + c.first_item-k.result) < c.args.at.source.len - c.loop-done.done = omega arith in
+    let z : c.args.at.source.len - (c.loop-done.done + c.first_item-len.result) < c.args.at.source.len - c.loop-done.done = omega arith in
     z
 
 pub put_each-loop-done-preserved : goal.put_each-loop-done-preserved
 put_each-loop-done-preserved t c =
-    let f = item_at c.loop-done.work (c.args.at.source.start + c.loop-done.done) (c.args.at.source.len - c.loop-done.done) c.words.ensures (omega arith) c.first_item-k.ensures in
+    let f = item_at c.loop-done.work (c.args.at.source.start + c.loop-done.done) (c.args.at.source.len - c.loop-done.done) c.words.ensures (omega arith) c.first_item-len.ensures in
     let g = got (rw c.below_on-item.ensures at c.in-Ok.ensures) c.show.auto.work in
     item_next c.requires c.loop-done.invariant c.loop-done-test.true f g c.put.auto.work c.put.auto.marks
     (rw (c.seeing.ensures, c.below_on-back.ensures) at c.put.ensures)

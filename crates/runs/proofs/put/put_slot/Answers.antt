@@ -4,13 +4,13 @@ use native.Mathlib.Omega.{arith}
 use Rattle.runs.proofs.SlotLaws.{found}
 use Rattle.runs.proofs.put.put_slot.Goals as goal
 
-pub overflow_mul-k : goal.overflow_mul-k
-overflow_mul-k c =
-    let f = found c.args.byte c.requires.bound c.requires.count_value (sym c.unwrap-k.ensures ∙ c.find.ensures) in
+pub overflow_mul-place : goal.overflow_mul-place
+overflow_mul-place c =
+    let f = found c.args.byte c.requires.bound c.requires.count_value (sym c.unwrap-place.ensures ∙ c.find.ensures) in
     omega arith
 
 pub merge_from-requires : goal.merge_from-requires
 merge_from-requires c =
-    let f = found c.args.byte c.requires.bound c.requires.count_value (sym c.unwrap-k.ensures ∙ c.find.ensures) in
+    let f = found c.args.byte c.requires.bound c.requires.count_value (sym c.unwrap-place.ensures ∙ c.find.ensures) in
     let n = rw (← f.place) at c.requires.view_len in
     (omega arith, omega arith)
