@@ -1,4 +1,5 @@
 // The program and the master: replies 2 to 5.
+// Stays: each file, the view too, has its own scan and check, since rules and refusals differ.
 ghost use Rattle.std.specs.Prelude.{◌≡◌, ◌≤◌, length};
 ghost use Rattle.calls.specs.Judging.{master_rule};
 ghost use Rattle.calls.specs.Engine.Parts.{ProgramJudged, MasterJudged};

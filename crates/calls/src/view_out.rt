@@ -1,4 +1,5 @@
 // The view's lines, written from the words of what was shown.
+// Stays: a node is a word of the lent slice, kind and mark the bytes of a line.
 ghost use Rattle.std.specs.Prelude.{◌≡◌, ◌+◌, ◌≤◌, ◌<◌, ◌/◌, length};
 ghost use Rattle.lines.specs.Nodes.{untouched_mark};
 ghost use Rattle.lines.specs.Writing.{line_bytes};

@@ -1,4 +1,5 @@
 // The master's lines as they are handed back, written from the words of their standings.
+// Stays: a standing is a word of the lent slice, a mark the byte of a line.
 ghost use Rattle.std.specs.Prelude.{◌≡◌, ◌+◌, ◌≤◌, length};
 ghost use Rattle.lines.specs.Writing.{line_bytes};
 ghost use Rattle.lines.specs.Engine.Writes.{Written, WroteLines};

@@ -31,6 +31,7 @@ impl<'a> EntryLine<'a> {
         EntryLine { bytes, start }
     }
 
+    // Stays: a byte, as the entry may have any there.
     #[tactic(auto, unfolding(crate::specs::Engine::Starts::entry_at))]
     pub fn operation(&self) -> u8
         ensures { result ≡ self.now.operation }

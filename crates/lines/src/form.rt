@@ -1,4 +1,5 @@
 // The form of one line's bytes. A line is cut from its file with its 0A.
+// Stays: kind and mark are bytes, as a line may have any there; `kind_rule` answers for each.
 ghost use Rattle.std.specs.Prelude.{◌≡◌};
 ghost use Rattle.lines.specs.Hex.{decode};
 ghost use Rattle.lines.specs.Texts.{same_text};
@@ -31,6 +32,7 @@ fn is_word(d: &[u8], word: &[u8]) -> bool
     if d.len() / 2 != word.len() {
         return false;
     }
+    // Stays: a loop, as std has no lemma for a range turned round under `all`.
     for j in (0..word.len()).rev() {
         if pair_at(d, 2 * j) != word[j] {
             return false;
@@ -63,6 +65,7 @@ fn kind_rule(kind: u8, mark: u8, d: &[u8]) -> bool
     }
 }
 
+// Stays: apart from `text_form`, as length and count stand at other places.
 #[tactic(auto, using(crate::proofs::Forms::pairs), unfolding(crate::specs::Nodes::node_form))]
 pub fn node_form(c: &[u8]) -> bool
     ensures { result ≡ node_form (decode c.now) }

@@ -14,6 +14,7 @@ use crate::write::Head;
 use std::marker::Model;
 
 // A node that the program made has this number.
+// Stays: FFFF is what such a line says.
 pub const PROGRAM_NUMBER: u16 = 0xFFFF;
 
 // The line of one node, which begins at `start`.
@@ -175,6 +176,7 @@ impl<'a> NodeLines<'a> {
         ensures { result ≡ master_bounds self.now }
     {
         let mut most: u8 = 0;
+        // Stays: a loop, as the greatest depth goes from line to line.
         for k in 0..self.len() {
             let line = self.line(k);
             if !line.is_placed(most, k) {

@@ -31,6 +31,7 @@ fn digits_value(text: &Text, from: u8) -> u32
     value
 }
 
+// Stays: a bool, as `has_minus` answers it.
 fn signed(minus: bool, size: u32) -> i32
     requires { size < 1000000000 }
     ensures { result ≡ signed_of minus size }

@@ -7,6 +7,7 @@ ghost use Rattle.lines.specs.Engine.Starts.{pairs_end, Scanned};
 use crate::form::{entry_form, node_form};
 use crate::hex::is_hex;
 
+// Stays: no equality, as it is matched and never compared.
 #[derive(Clone, Copy)]
 pub enum File {
     Program,

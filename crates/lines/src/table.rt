@@ -1,4 +1,5 @@
 // The one table of operations: operand shape and number of sub-entries.
+// Stays: an operation is a byte, as an entry may have any there; ranges tell its class.
 ghost use Rattle.std.specs.Prelude.{◌≡◌};
 ghost use Rattle.lines.specs.Entries.{class_of, row_of, operand_shape, subs_of};
 

@@ -104,6 +104,7 @@ impl<'a> Text<'a> {
         if m != n {
             return false;
         }
+        // Stays: a loop, as std has no lemma for a range turned round under `all`.
         for j in (0..n).rev() {
             if !self.has_same_byte(other, j) {
                 return false;

@@ -17,7 +17,7 @@ fn in_one(reply: Reply) -> u64
     reply.number as u64 * 0x100000000 + reply.place as u64 * 0x10000 + reply.length as u64
 }
 
-// Stays: each form tests its room itself, since each is a function of its own of the C interface.
+// Stays: showing and putting back test the output's room here, since each brings a work slice of its own size; sweeping hands on what it is lent.
 #[unsafe(no_mangle)]
 pub extern "C" fn meadcinder_show(master: &[u8], program: &[u8], out: &mut [u8]) -> u64
     ensures { ShowsInC master.now program.now out.old (packed result out.new) }

@@ -26,6 +26,7 @@ const BYTE_PATTERN: u8 = 0xA5;
 const WORK_PATTERN: u32 = 0x5A5A5A5A;
 
 // Why no more cases are run.
+// Stays: no equality, since an error of std has none.
 #[derive(Drop)]
 enum Stop {
     Ended,
@@ -133,6 +134,7 @@ impl Lent {
     // Whether nothing but what the reply may write was written, and the work slice left as promised; `written` is the
     // length of the number lines.
     fn is_kept(&self, call: Call, reply: Reply, written: usize) -> bool {
+        // Stays: a reply's number, as the calls' contracts name it.
         let cleared = if call == Call::Sweep || reply.number == 1 {
             0
         } else {
@@ -201,6 +203,7 @@ fn next_case<R: Read, W: Write>(input: &mut R, to: &mut W) -> Result<(), Stop> {
 fn main(rt: HostRuntime) -> io::Result<()> {
     let mut input = rt.reader();
     let mut to = io::writer(&rt);
+    // Stays: nothing is counted; the bound says that it ends.
     for _ in 0..u64::MAX {
         match next_case(&mut input, &mut to) {
             Ok(()) => {}

@@ -1,4 +1,5 @@
 // What a run reads: the program's entries, the place behind each one's subtree, and the master's lines.
+// Stays: a node is its word, as it lies in the work slice.
 ghost use Rattle.std.specs.Prelude.{◌≡◌, ◌<◌, length, get_or};
 ghost use Rattle.values.specs.Values.{element_of, bytes_of};
 ghost use Rattle.values.specs.Engine.Words.{node_of};
@@ -73,6 +74,7 @@ impl<'a> Inputs<'a> {
     }
 
     // Where the branch stands that the test at `entry` leads to.
+    // Stays: a bool, since a test says yes or no.
     pub fn chosen(&self, entry: u8, yes: bool) -> u8
         requires { (entry < length self.now.ends.now) × (get_or self.now.ends.now entry 0 < length self.now.ends.now) }
         ensures { result ≡ branch_at self.now.ends.now entry yes }

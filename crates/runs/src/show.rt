@@ -26,6 +26,7 @@ fn one_top(words: &[u32]) -> bool
 }
 
 // "exactly one top node, an element"
+// Stays: apart from `one_text`, as the rules ask two questions, each with its own stop.
 fn one_element(inputs: &Inputs, words: &[u32]) -> bool
     ensures { let made = made_by inputs.now.entries in
         result ≡ is_one_element (lookup_of inputs.now.nodes) (value_of made words.now) }

@@ -15,6 +15,7 @@ pub const LEVELS: u8 = 12;
 
 // What may still stand below an entry, and the slots bound there, the outermost first.
 // Stays: an array with a count, since memory is fixed and there is no heap.
+// Stays: apart from `SlotWords`, as here the slots' bytes alone are known.
 #[derive(Drop)]
 struct Room {
     eaches: u8,

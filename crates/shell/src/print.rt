@@ -10,6 +10,7 @@ use lines::hex::hex_digit;
 use std::io;
 use std::io::Write;
 
+// Stays: FF is no call's reply, but what a program prints.
 const UNREADABLE: Reply = Reply {
     number: 0xFF,
     place: 0,

@@ -8,6 +8,7 @@ use shell::print::{print_answer, print_first, print_unreadable};
 use shell::read::{NODES_ROOM, read_file};
 use std::io;
 
+// Stays: apart from the mains of show and putback: one file, and a second output. 0 is the reply's number.
 fn main(rt: HostRuntime) -> io::Result<()> {
     let mut to = io::writer(&rt);
     let mut master = [0u8; NODES_ROOM];

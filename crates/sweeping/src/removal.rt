@@ -35,6 +35,7 @@ impl Removal {
         if self.is_over(line) {
             return true;
         }
+        // Stays: a mark is a byte of a line.
         let is_deleted = line.mark() == Mark::Deleted as u8;
         self.above = is_deleted.then_some(line.depth());
         is_deleted

@@ -22,6 +22,7 @@ pub fn write_swept(nodes: &NodeLines, out: &mut [u8]) -> usize
             let head = Head {
                 depth: line.depth(),
                 kind: line.kind(),
+                // Stays: a mark is a byte of a line.
                 mark: Mark::Untouched as u8,
                 number: count,
             };

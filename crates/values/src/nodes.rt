@@ -14,6 +14,7 @@ pub const LEVEL: u32 = 0x10000;
 pub const PROGRAM: u32 = 0x8000;
 
 // Where the node of a word comes from: the master's line of this number, or the program's entry at this place.
+// Stays: no equality, as it is matched and never compared.
 #[derive(Clone, Copy)]
 pub enum WordOrigin {
     Master(u16),

@@ -57,6 +57,7 @@ pub fn merge(work: &mut [u32], from: Extent, to: usize)
 }
 
 // The same from one slice into another.
+// Stays: apart from `merge`, whose one slice is cut first.
 pub fn merge_from(work: &mut [u32], to: usize, other: &[u32], from: Extent)
     requires { (to + from.len ≤ length work.old) × LiesIn from other.now }
     ensures { work.new ≡ put_at work.old to (merged_words (part work.old to from.len) (part other.now from.start from.len)) }
