@@ -23,8 +23,9 @@ use Rattle.runs.specs.Reading.{read_program, fault_of}
 use Rattle.runs.specs.Engine.Runs.{Ended}
 use Rattle.runs.specs.Engine.Checking.{Sized, CheckedWhole}
 use Rattle.calls.specs.Judging.{formed, keeps, is_tree, master_rule, judged_master, judged_program}
-use Rattle.calls.specs.Engine.Parts.{MasterGoes, ProgramGoes}
+use Rattle.calls.specs.Engine.Parts.{MasterGoes, MasterJudged, ProgramGoes, ProgramJudged}
 use Rattle.calls.proofs.Places.{master_below}
+use Rattle.calls.proofs.Noted.{lines_part, entries_part}
 
 -- ## The master
 
@@ -45,6 +46,9 @@ module _ (putting : Bool) {s before noted : List ℕ} {r : Answer ℕ ℕ} (x : 
 
   -- the rules judge the part of the places from 0 to n
   module _ {ls : List Line} (is : ls ≡ lines_of s (take (n - 0) noted)) where
+    noted_are : ls ≡ lines_of s (take n noted)
+    noted_are = lines_part s noted n is
+
     nodes_are : nodes s ≡ ls
     nodes_are = rw (is, sub-zero n) master_lines
 
@@ -56,9 +60,9 @@ module _ (putting : Bool) {s before noted : List ℕ} {r : Answer ℕ ℕ} (x : 
       unfolding judged_master formed keeps
       master_faulty line f = rw (master_scans, nodes_are, ← rule, f)
 
-      pub master_goes : n ≤ length noted → v ≡ None → MasterGoes putting s ls
+      goes : n ≤ length noted → v ≡ None → MasterGoes putting s ls
       unfolding judged_master formed keeps
-      master_goes h f =
+      goes h f =
           record {
             few = master_long h;
             lines = nodes_are;
@@ -66,6 +70,9 @@ module _ (putting : Bool) {s before noted : List ℕ} {r : Answer ℕ ℕ} (x : 
             form = subst AllWritable nodes_are (nodes_writable Master master_of_nodes s n master_scans);
             judged = rw (master_scans, nodes_are, ← rule, f);
           }
+
+      pub master_goes : n ≤ length noted → v ≡ None → MasterJudged putting s noted (Ok n)
+      master_goes h f = (master_few, subst (MasterGoes putting s) noted_are (goes h f))
 
       pub master_place : n ≤ length noted → (line : ℕ) → v ≡ Some line → line < 0x10000
       master_place h line f =
@@ -101,6 +108,9 @@ module _ {s before noted : List ℕ} {r : Answer ℕ ℕ} (x : Scanned Program s
   program_few = (scanned_whole x n e).few
 
   module _ {E : List Entry} (is : E ≡ entries_of s (take (n - 0) noted)) where
+    noted_entries : E ≡ entries_of s (take n noted)
+    noted_entries = entries_part s noted n is
+
     entries_are : entries s ≡ E
     entries_are = rw (is, sub-zero n) program_lines
 
@@ -114,11 +124,18 @@ module _ {s before noted : List ℕ} {r : Answer ℕ ℕ} (x : Scanned Program s
     unfolding judged_program formed is_tree
     program_faulty place w = rw (program_scans, entries_are, fault_stops (read_program E) place w.verdict)
 
-    pub program_goes : n ≤ length noted → {ends : List ℕ} (next : ℕ) → CheckedWhole E ends (Ok next) → ProgramGoes s E × Ended E (take (length E) ends)
+    program_sound : n ≤ length noted → {ends : List ℕ} (next : ℕ) → CheckedWhole E ends (Ok next) → ProgramGoes s E
     unfolding judged_program formed is_tree
-    program_goes h {ends} next w =
+    program_sound h {ends} next w =
         let g = fine_gives (read_program E) w.verdict in
-        let reads : read_program (entries s) ≡ gives g.0 = ap read_program entries_are ∙ g.1 in (
-          record { few = program_long h; lines = entries_are; tree = g.0; read = g.1; judged = rw (program_scans, reads) },
-          subst (λ (k : ℕ). Ended E (take k ends)) w.ended.0 w.ended.1,
-        )
+        let reads : read_program (entries s) ≡ gives g.0 = ap read_program entries_are ∙ g.1 in
+        record { few = program_long h; lines = entries_are; tree = g.0; read = g.1; judged = rw (program_scans, reads) }
+
+    -- as many entries as places
+    all_noted : n ≤ length noted → length E ≡ n
+    all_noted h = ap length noted_entries ∙ length-map (take n noted) (entry_at s) ∙ length-take-le n noted h
+
+    pub program_goes : n ≤ length noted → {ends : List ℕ} (next : ℕ) → CheckedWhole E ends (Ok next) → ProgramJudged s noted ends (Ok n)
+    program_goes h {ends} next w =
+        let ended = subst (λ (k : ℕ). Ended E (take k ends)) (w.ended.0 ∙ all_noted h) w.ended.1 in
+        subst (λ (es : List Entry). (n ≤ 96) × ProgramGoes s es × Ended es (take n ends)) noted_entries (program_few, program_sound h next w, ended)

@@ -5,6 +5,8 @@ pub mod WordLines
 pub mod HandedLines
 -- Scanned files and verdicts: the places that replies name
 pub mod Places
+-- The lines that the code reads, by the places that were noted
+pub mod Noted
 -- The edited view: its judging, and the words of what its lines bring
 pub mod Differing
 pub mod ViewJudging

@@ -20,7 +20,8 @@ use Rattle.lines.specs.Engine.Writes.{AllWritable}
 use native.Mathlib.Nat.{sub-zero}
 use Rattle.runs.specs.Results.{stops}
 use Rattle.calls.specs.Judging.{formed, keeps, judged_view}
-use Rattle.calls.specs.Engine.Parts.{ViewGoes}
+use Rattle.calls.specs.Engine.Parts.{ViewGoes, ViewJudged}
+use Rattle.calls.proofs.Noted.{lines_part}
 
 -- ## Answers
 
@@ -30,10 +31,10 @@ pub record Differs (fresh : List Line) (s : List ℕ) (v : Option ℕ) : Type 0 
   pub judged : (line : ℕ) → v ≡ Some line → judged_view fresh s ≡ stops (reply 9 line)
 
 -- what the search for the program's marks answered
-pub record Marked (fresh : List Line) (s : List ℕ) (es : List Line) (u : Option ℕ) : Type 0 where
+pub record Marked (fresh : List Line) (s noted : List ℕ) (n : ℕ) (u : Option ℕ) : Type 0 where
   pub place : (line : ℕ) → u ≡ Some line → line < 0x10000
   pub judged : (line : ℕ) → u ≡ Some line → judged_view fresh s ≡ stops (reply 10 line)
-  pub goes : u ≡ None → ViewGoes fresh s es
+  pub goes : u ≡ None → ViewJudged fresh s noted (Ok n)
 
 pub view_misformed : (fresh : List Line) (s : List ℕ) (line : ℕ) → scan View s ≡ Err line → judged_view fresh s ≡ stops (reply 8 line)
 unfolding judged_view formed
@@ -49,6 +50,9 @@ module _ {s before noted : List ℕ} {r : Result ℕ ℕ} (x : Scanned View s be
 
   -- the lines at the part of the places from 0 to n
   module _ {es : List Line} (is : es ≡ lines_of s (take (n - 0) noted)) where
+    noted_are : es ≡ lines_of s (take n noted)
+    noted_are = lines_part s noted n is
+
     lines_are : nodes s ≡ es
     lines_are = rw (is, sub-zero n) (said_lines nodes node_at reads_view (scanned_whole x n e))
 
@@ -91,5 +95,5 @@ module _ {s before noted : List ℕ} {r : Result ℕ ℕ} (x : Scanned View s be
               judged = rw (view_scans, lines_are, ← compared, same, ← marks, f);
             }
 
-        pub marked : Marked fresh s es u
-        marked = record { place = mark_place; judged = view_marked; goes = view_goes }
+        pub marked : Marked fresh s noted n u
+        marked = record { place = mark_place; judged = view_marked; goes = λ f. (view_few, subst (ViewGoes fresh s) noted_are (view_goes f)) }

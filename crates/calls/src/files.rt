@@ -11,20 +11,17 @@ use lines::scan::{File, scan_lines};
 use lines::verdict::earlier_of;
 use runs::tree::check_program;
 
-// The program's entries, which begin at the places left in `starts`; leaves the place behind each one's subtree in `ends`.
-pub fn judge_program<'a>(
-    program: &'a [u8],
-    starts: &'a mut [u16],
-    ends: &mut [u8],
-) -> Result<EntryLines<'a>, Refusal>
+// How many entries the program has. Leaves in `starts` where each begins, and in `ends` the place behind its subtree.
+// Stays: a count, since no contract speaks of lent places from which the answer borrows.
+pub fn judge_program(program: &[u8], starts: &mut [u16], ends: &mut [u8]) -> Result<usize, Refusal>
     requires { (128 ≤ length starts.old) × (96 ≤ length ends.old) }
-    ensures { ProgramJudged program.now ends.new result }
+    ensures { ProgramJudged program.now starts.new ends.new result }
 {
     let n = scan_lines(File::Program, program, starts).map_err(Refusal::ProgramLine)?;
     let entries = EntryLines::new(program, &starts[0..n]);
     // Stays: matched, since behind `map_err` the bound of the entry is not known.
     match check_program(&entries, ends) {
-        Ok(_) => Ok(entries),
+        Ok(_) => Ok(n),
         Err(entry) => Err(Refusal::ProgramTree(entry)),
     }
 }
@@ -41,19 +38,15 @@ fn master_fault(nodes: &NodeLines, putting: bool) -> Option<usize>
     earlier_of(misplaced, nodes.first_marked())
 }
 
-// The master's lines, which begin at the places left in `starts`.
-pub fn judge_master<'a>(
-    master: &'a [u8],
-    starts: &'a mut [u16],
-    putting: bool,
-) -> Result<NodeLines<'a>, Refusal>
+// How many lines the master has. Leaves in `starts` where each begins.
+pub fn judge_master(master: &[u8], starts: &mut [u16], putting: bool) -> Result<usize, Refusal>
     requires { 128 ≤ length starts.old }
-    ensures { MasterJudged putting master.now result }
+    ensures { MasterJudged putting master.now starts.new result }
 {
     let n = scan_lines(File::Master, master, starts).map_err(Refusal::MasterLine)?;
     let nodes = NodeLines::new(master, &starts[0..n]);
     if let Some(line) = master_fault(&nodes, putting) {
         return Err(Refusal::MasterRule(line));
     }
-    Ok(nodes)
+    Ok(n)
 }

@@ -65,7 +65,8 @@ fn compared(
     ensures { ComparedBack inputs.now.entries inputs.now.nodes view.now out.old out.new result }
 {
     let mut starts = [0u16; LINES];
-    let lines = judge_view(inputs, work, shown, view, &mut starts)?;
+    let n = judge_view(inputs, work, shown, view, &mut starts)?;
+    let lines = NodeLines::new(view, &starts[0..n]);
     carry(inputs, &lines, out, work)
 }
 
@@ -81,8 +82,14 @@ fn write_handed_back(
     ensures { SettledBy (judged_put_back master.now program.now view.now) out.old out.new result }
 {
     let mut places = Places::new();
-    let reached = reach(master, program, true, &mut places, work)?;
-    compared(&reached.inputs, reached.shown, view, out, work)
+    let Places {
+        starts,
+        ends,
+        lines,
+    } = &mut places;
+    let reached = reach(master, program, true, starts, ends, lines, work)?;
+    let inputs = places.inputs(program, master, reached);
+    compared(&inputs, reached.shown, view, out, work)
 }
 
 // What is judged once there is room; public, since a C form brings a work slice that suffices.

@@ -21,8 +21,14 @@ fn write_shown(
     ensures { SettledBy (judged_show master.now program.now) out.old out.new result }
 {
     let mut places = Places::new();
-    let reached = reach(master, program, false, &mut places, work)?;
-    Ok(write_view(&reached.inputs, work, reached.shown, out))
+    let Places {
+        starts,
+        ends,
+        lines,
+    } = &mut places;
+    let reached = reach(master, program, false, starts, ends, lines, work)?;
+    let inputs = places.inputs(program, master, reached);
+    Ok(write_view(&inputs, work, reached.shown, out))
 }
 
 // What is judged once there is room; public, since a C form brings a work slice that suffices.

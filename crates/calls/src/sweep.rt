@@ -9,6 +9,7 @@ use crate::files::judge_master;
 use crate::refusal::Refusal;
 use crate::reply::Reply;
 use crate::room::{LINES, NUMBERS_ROOM, OUT_ROOM};
+use lines::node::NodeLines;
 use sweeping::write_lines::write_swept;
 use sweeping::write_numbers::write_numbers;
 
@@ -18,7 +19,8 @@ fn write_both(master: &[u8], out: &mut [u8], numbers: &mut [u8]) -> Result<usize
     ensures { SweptBy (judged_master false master.now) out.old numbers.old out.new numbers.new result }
 {
     let mut starts = [0u16; LINES];
-    let nodes = judge_master(master, &mut starts, false)?;
+    let n = judge_master(master, &mut starts, false)?;
+    let nodes = NodeLines::new(master, &starts[0..n]);
     write_numbers(&nodes, numbers);
     Ok(write_swept(&nodes, out))
 }

@@ -15,17 +15,17 @@ use lines::scan::{File, scan_lines};
 use runs::inputs::Inputs;
 use values::standings::{CHANGED, DELETED, UNTOUCHED};
 
-// The view's lines, which begin at the places left in `starts`.
-pub fn judge_view<'a>(
+// How many lines the view has. Leaves in `starts` where each begins.
+pub fn judge_view(
     inputs: &Inputs,
     work: &[u32],
     shown: usize,
-    view: &'a [u8],
-    starts: &'a mut [u16],
-) -> Result<NodeLines<'a>, Refusal>
+    view: &[u8],
+    starts: &mut [u16],
+) -> Result<usize, Refusal>
     requires shown_words { ShownWords inputs.now.entries work.now shown }
     requires in_bounds { 128 ≤ length starts.old }
-    ensures { ViewJudged (view_lines inputs.now.entries inputs.now.nodes work.now shown) view.now result }
+    ensures { ViewJudged (view_lines inputs.now.entries inputs.now.nodes work.now shown) view.now starts.new result }
 {
     let n = scan_lines(File::View, view, starts).map_err(Refusal::ViewLine)?;
     let lines = NodeLines::new(view, &starts[0..n]);
@@ -35,7 +35,7 @@ pub fn judge_view<'a>(
     if let Some(line) = lines.first_program_mark() {
         return Err(Refusal::ProgramMark(line));
     }
-    Ok(lines)
+    Ok(n)
 }
 
 // The sum of each line's text: texts with different sums need not be compared.

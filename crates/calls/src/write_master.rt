@@ -2,6 +2,7 @@
 // Stays: a standing is a word of the lent slice, a mark the byte of a line.
 ghost use Rattle.std.specs.Prelude.{◌≡◌, ◌+◌, ◌≤◌, length};
 ghost use Rattle.lines.specs.Writing.{line_bytes};
+ghost use Rattle.lines.specs.Engine.Texts.{text_bytes};
 ghost use Rattle.lines.specs.Engine.Writes.{Written, WroteLines};
 ghost use Rattle.values.specs.Standings.{hands_back};
 ghost use Rattle.values.specs.Engine.Words.{standing_of};
@@ -28,7 +29,7 @@ fn mark_left(mark: u8, word: u32) -> u8
 
 // The text that a standing leaves: a changed line has a view line's.
 fn text_left<'a>(line: &NodeLine<'a>, view: &NodeLines<'a>, word: u32) -> Text<'a>
-    ensures { result ≡ (hands_back line.now (standing_of (texts_of view.now) word)).text }
+    ensures { text_bytes result ≡ (hands_back line.now (standing_of (texts_of view.now) word)).text }
 {
     if word < CHANGED {
         return line.text();

@@ -2,4 +2,5 @@
 pub mod Digits
 pub mod Starts
 pub mod Sums
+pub mod Texts
 pub mod Writes

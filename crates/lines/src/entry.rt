@@ -1,12 +1,27 @@
 // The lines of a program, each read off the file where it stands; nothing is asked of file or start.
-ghost use Rattle.std.specs.Prelude.{◌≡◌, ◌<◌, length, get_or};
+ghost use Rattle.std.specs.Prelude.{◌≡◌, ◌+◌, ◌<◌, length, get_or};
 ghost use Rattle.lines.specs.Entries.{Entry, slot_of, text_of};
-ghost use Rattle.lines.specs.Engine.Starts.{entry_at, entries_of};
+ghost use Rattle.lines.specs.Engine.Starts.{pair_at, entry_at, entries_of};
+ghost use Rattle.lines.specs.Engine.Texts.{text_bytes};
 
 use crate::hex::pair_at;
 use crate::table::{Shape, operand_shape};
 use crate::text::Text;
 use std::marker::Model;
+
+// The byte behind the operation, whatever that is.
+pub fn slot_at(s: &[u8], start: u16) -> u8
+    ensures { result ≡ pair_at s.now (start + 2) }
+{
+    pair_at(s, start as usize + 2)
+}
+
+// Where a text or tag stands behind the operation, whatever that is.
+pub fn entry_text(start: u16) -> u32
+    ensures { result ≡ start + 2 }
+{
+    start as u32 + 2
+}
 
 // The line of one entry, which begins at `start`.
 #[derive(Drop)]
@@ -46,17 +61,17 @@ impl<'a> EntryLine<'a> {
     {
         match operand_shape(self.operation()) {
             None | Some(Shape::Nothing) => 0,
-            Some(_) => pair_at(self.bytes, self.start as usize + 2),
+            Some(_) => slot_at(self.bytes, self.start),
         }
     }
 
     // The text or tag of the operation, empty if it has neither.
     #[tactic(auto, unfolding(crate::specs::Entries::text_of, crate::specs::Engine::Starts::entry_at, crate::specs::Engine::Starts::operand_at))]
     pub fn text(&self) -> Text<'a>
-        ensures { result ≡ text_of self.now }
+        ensures { text_bytes result ≡ text_of self.now }
     {
         match operand_shape(self.operation()) {
-            Some(Shape::Text | Shape::Tag) => Text::at(self.bytes, self.start as u32 + 2),
+            Some(Shape::Text | Shape::Tag) => Text::at(self.bytes, entry_text(self.start)),
             _ => Text::empty(),
         }
     }

@@ -4,6 +4,7 @@ ghost use Rattle.lines.specs.Nodes.{Line, line_at, is_element, is_marked};
 ghost use Rattle.lines.specs.Masters.{placed, depth_after, master_bounds, unmarked};
 ghost use Rattle.lines.specs.Views.{same_head, program_marked, program_mark};
 ghost use Rattle.lines.specs.Engine.Starts.{node_at, lines_of};
+ghost use Rattle.lines.specs.Engine.Texts.{text_bytes};
 ghost use Rattle.lines.specs.Engine.Writes.{headed};
 
 use crate::form::is_element;
@@ -74,7 +75,7 @@ impl<'a> NodeLine<'a> {
 
     #[tactic(auto, unfolding(crate::specs::Engine::Starts::node_at))]
     pub fn text(&self) -> Text<'a>
-        ensures { result ≡ self.now.text }
+        ensures { text_bytes result ≡ self.now.text }
     {
         Text::at(self.bytes, self.start as u32 + 10)
     }

@@ -1,18 +1,19 @@
 // Whole numbers in texts, which test 14 compares.
 ghost use Rattle.std.specs.Prelude.{◌≡◌, true, ◌<◌, drop};
 ghost use Rattle.lines.specs.Numbers.{has_minus, are_digits, digits_value, signed as signed_of, whole_number};
+ghost use Rattle.lines.specs.Engine.Texts.{text_bytes};
 
 use crate::text::Text;
 
 fn has_minus(text: &Text) -> bool
-    ensures { result ≡ has_minus text.now }
+    ensures { result ≡ has_minus (text_bytes text.now) }
 {
     text.len() != 0 && text.byte(0) == b'-'
 }
 
 // Whether the bytes from `from` on are one to nine digits.
 fn are_digits(text: &Text, from: u8) -> bool
-    ensures { result ≡ are_digits (drop from text.now) }
+    ensures { result ≡ are_digits (drop from (text_bytes text.now)) }
 {
     let n = text.len();
     (1..=9).contains(&n.saturating_sub(from))
@@ -21,8 +22,8 @@ fn are_digits(text: &Text, from: u8) -> bool
 
 // The value of the digits from `from` on.
 fn digits_value(text: &Text, from: u8) -> u32
-    requires { are_digits (drop from text.now) ≡ true }
-    ensures { result ≡ digits_value 0 (drop from text.now) }
+    requires { are_digits (drop from (text_bytes text.now)) ≡ true }
+    ensures { result ≡ digits_value 0 (drop from (text_bytes text.now)) }
 {
     let mut value: u32 = 0;
     for j in from..text.len() {
@@ -40,7 +41,7 @@ fn signed(minus: bool, size: u32) -> i32
 }
 
 pub fn whole_number(text: &Text) -> Option<i32>
-    ensures { result ≡ whole_number text.now }
+    ensures { result ≡ whole_number (text_bytes text.now) }
 {
     let minus = has_minus(text);
     let from = minus as u8;

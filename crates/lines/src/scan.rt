@@ -39,6 +39,9 @@ impl File {
     }
 }
 
+// "each line ended by byte 0A"
+const LINE_END: u8 = b'\n';
+
 // Past the line that begins at `at`, if it is whole pairs and 0A. This is the scan's only look for digits.
 fn line_end(s: &[u8], at: usize) -> Option<usize>
     requires { at ≤ length s.now }
@@ -47,7 +50,7 @@ fn line_end(s: &[u8], at: usize) -> Option<usize>
     // Stays: a loop over places, as `position` over the same bytes takes nearly twice as long.
     for i in at..s.len() {
         if !is_hex(s[i]) {
-            if (i - at) % 2 == 0 && s[i] == b'\n' {
+            if (i - at) % 2 == 0 && s[i] == LINE_END {
                 return Some(i + 1);
             }
             return None;

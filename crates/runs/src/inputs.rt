@@ -1,6 +1,7 @@
 // What a run reads: the program's entries, the place behind each one's subtree, and the master's lines.
 // Stays: a node is its word, as it lies in the work slice.
 ghost use Rattle.std.specs.Prelude.{◌≡◌, ◌<◌, length, get_or};
+ghost use Rattle.lines.specs.Engine.Texts.{text_bytes};
 ghost use Rattle.values.specs.Values.{element_of, bytes_of};
 ghost use Rattle.values.specs.Engine.Words.{node_of};
 ghost use Rattle.runs.specs.Reading.{no_entry};
@@ -44,7 +45,7 @@ impl<'a> Inputs<'a> {
     #[tactic(auto, using(std::proofs::lemmas::List::get_or_past), unfolding(lines::specs::Entries::text_of, values::specs::Values::bytes_of, crate::specs::Engine::Runs::lookup_of, crate::specs::Engine::Runs::made_by))]
     pub fn text(&self, word: u32) -> Text<'a>
         ensures { let made = made_by self.now.entries in
-            result ≡ bytes_of (lookup_of self.now.nodes) (node_of made word).origin }
+            text_bytes result ≡ bytes_of (lookup_of self.now.nodes) (node_of made word).origin }
     {
         match origin_of(word) {
             WordOrigin::Master(n) if (n as usize) < self.nodes.len() => {

@@ -4,6 +4,7 @@
 pub mod at;
 pub mod inputs;
 pub mod put;
+mod room;
 pub mod show;
 pub mod slots;
 pub mod stop;

@@ -89,21 +89,22 @@ fn put_within(inputs: &Inputs, work: &mut [u32], marks: &mut [u32], at: At)
     requires { BegunAt inputs.now.entries inputs.now.nodes inputs.now.ends.now work.old marks.old at 0x07 }
     ensures { PutAt inputs.now.entries inputs.now.nodes work.old marks.old at work.new marks.new }
 {
-    let above = at.top + VALUE_ROOM;
+    let top = at.top;
+    let above = top + VALUE_ROOM;
     let contents = at.source.skip(1);
-    lower(work, contents, at.top);
+    lower(work, contents, top);
     let lowered = Extent {
-        start: at.top,
+        start: top,
         len: contents.len,
     };
     let under = at.below_on(at.entry + 1, lowered, above);
     put(inputs, work, marks, under.seeing(at.view.skip(1)));
-    work[at.top] = work[at.view.start];
+    work[top] = work[at.view.start];
     let back = Extent {
         start: above,
         len: contents.len,
     };
-    copy(work, back, at.top + 1);
+    copy(work, back, top + 1);
 }
 
 // 08: through X2 over what X1 shows, then through X1.
@@ -255,16 +256,17 @@ fn put_equals(inputs: &Inputs, work: &mut [u32], marks: &mut [u32], at: At)
     requires { BegunTestAt inputs.now.entries inputs.now.nodes inputs.now.ends.now work.old marks.old at }
     ensures { TestPutAt inputs.now.entries inputs.now.nodes work.old marks.old at work.new marks.new }
 {
+    let top = at.top;
     let view = Extent {
-        start: at.top + VALUE_ROOM,
+        start: top + VALUE_ROOM,
         len: at.source.len,
     };
     fill(work, view, LOCKED);
-    merge(work, view, at.top);
+    merge(work, view, top);
     let nothing = Extent {
         start: at.source.start,
         len: 0,
     };
-    let under = at.below_on(at.entry + 1, nothing, at.top + PUT_ROOM);
+    let under = at.below_on(at.entry + 1, nothing, top + PUT_ROOM);
     put(inputs, work, marks, under.seeing(view));
 }

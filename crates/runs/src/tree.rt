@@ -1,114 +1,16 @@
 // The tree check: levels, counts and slots from the root down, and the place behind each entry's subtree.
-ghost use Rattle.std.specs.Prelude.{◌≡◌, true, false, ◌≤◌};
+ghost use Rattle.std.specs.Prelude.{◌≡◌, true, false};
 ghost use Rattle.lines.specs.Entries.{class_of, subs_of};
-ghost use Rattle.values.specs.Values.{among};
-ghost use Rattle.runs.specs.Reading.{whole_room, inside_each, inside_bind};
 ghost use Rattle.runs.specs.Engine.Ends.{stands, end_of, end_below, end_at};
-ghost use Rattle.runs.specs.Engine.Checking.{may_stand, room_inside, Sized, CheckedFrom, CheckedWhole};
+ghost use Rattle.runs.specs.Engine.Rooms.{room_of};
+ghost use Rattle.runs.specs.Engine.Checking.{Sized, CheckedFrom, CheckedWhole};
 
+pub use crate::room::Room;
 use lines::entry::EntryLines;
 use lines::table::{Class, class_of, subs_of};
-use std::marker::Model;
 
 // "no entry is at level 13"
 pub const LEVELS: u8 = 12;
-
-// What may still stand below an entry, and the slots bound there, the outermost first.
-// Stays: an array with a count, since memory is fixed and there is no heap.
-// Stays: apart from `SlotWords`, as here the slots' bytes alone are known.
-#[derive(Drop)]
-struct Room {
-    eaches: u8,
-    binds: u8,
-    bytes: [u8; 4],
-    count: usize,
-}
-
-impl Model for Room {
-    ghost use Rattle.std.specs.Prelude.{◌+◌, ◌≤◌};
-    ghost use Rattle.runs.specs.Reading.{Room as RoomLeft};
-
-    ghost Value = { RoomLeft };
-
-    ghost use Rattle.runs.specs.Engine.Rooms.{room_of};
-
-    ghost view = { room_of };
-
-    // Each 0C that is left has a place for its slot.
-    ghost invariant = { λ r. r.count + r.binds ≤ 4 };
-}
-
-impl Room {
-    #[tactic(auto, unfolding(crate::specs::Engine::Rooms::slots_of))]
-    fn whole() -> Room
-        ensures { result ≡ whole_room }
-    {
-        Room {
-            eaches: 3,
-            binds: 4,
-            bytes: [0; 4],
-            count: 0,
-        }
-    }
-
-    fn is_bound(&self, byte: u8) -> bool
-        ensures { result ≡ among byte self.now.slots }
-    {
-        self.bytes[..self.count].contains(&byte)
-    }
-
-    // Whether an entry of this operation and slot byte may stand here: 0A and 0C while some are left, 05 inside a 0C of its slot.
-    // Stays: the operations are the bytes of the table, as the rules name them.
-    #[tactic(auto, unfolding(crate::specs::Engine::Checking::may_stand))]
-    fn may_stand(&self, operation: u8, byte: u8) -> bool
-        ensures { result ≡ may_stand operation byte self.now }
-    {
-        match operation {
-            0x0A => 1 <= self.eaches,
-            0x0C => 1 <= self.binds,
-            0x05 => self.is_bound(byte),
-            _ => true,
-        }
-    }
-
-    fn inside_each(&self) -> Room
-        requires { 1 ≤ self.now.eaches }
-        ensures { result ≡ inside_each self.now }
-    {
-        Room {
-            eaches: self.eaches - 1,
-            ..*self
-        }
-    }
-
-    #[tactic(auto, using(crate::proofs::TreeCheckRooms::slots_bound))]
-    fn inside_bind(&self, byte: u8) -> Room
-        requires { 1 ≤ self.now.binds }
-        ensures { result ≡ inside_bind byte self.now }
-    {
-        let mut bytes = self.bytes;
-        bytes[self.count] = byte;
-        Room {
-            eaches: self.eaches,
-            binds: self.binds - 1,
-            bytes,
-            count: self.count + 1,
-        }
-    }
-
-    // What such an entry leaves to those below it.
-    #[tactic(auto, unfolding(crate::specs::Engine::Checking::may_stand, crate::specs::Engine::Checking::room_inside))]
-    fn below(&self, operation: u8, byte: u8) -> Room
-        requires { may_stand operation byte self.now ≡ true }
-        ensures { result ≡ room_inside operation byte self.now }
-    {
-        match operation {
-            0x0A => self.inside_each(),
-            0x0C => self.inside_bind(byte),
-            _ => Room { ..*self },
-        }
-    }
-}
 
 // Whether the operation is a test where one is asked for, else a transformation.
 // Stays: a bool, since the rules read a tree where a test is asked for or a transformation.
@@ -132,10 +34,10 @@ fn check_at(
     test: bool,
     entry: u8,
     levels: u8,
-    room: &Room,
+    room: Room,
 ) -> Result<u8, u8>
     requires { Sized entries.now ends.old }
-    ensures { CheckedFrom entries.now ends.old ends.new entry (end_at entries.now levels room.now test entry) result }
+    ensures { CheckedFrom entries.now ends.old ends.new entry (end_at entries.now levels (room_of room) test entry) result }
 {
     if levels == 0 {
         return Err(entry);
@@ -153,7 +55,7 @@ fn check_at(
         return Err(entry);
     }
     let inner = room.below(operation, byte);
-    let next = check_below(entries, ends, operation, entry + 1, levels - 1, &inner)?;
+    let next = check_below(entries, ends, operation, entry + 1, levels - 1, inner)?;
     ends[entry as usize] = next;
     Ok(next)
 }
@@ -166,10 +68,10 @@ fn check_below(
     operation: u8,
     entry: u8,
     levels: u8,
-    room: &Room,
+    room: Room,
 ) -> Result<u8, u8>
     requires { Sized entries.now ends.old }
-    ensures { let ends_of = end_at entries.now levels room.now in
+    ensures { let ends_of = end_at entries.now levels (room_of room) in
         CheckedFrom entries.now ends.old ends.new entry (end_below (ends_of false) (ends_of true) (subs_of operation) entry) result }
 {
     match subs_of(operation) {
@@ -187,10 +89,10 @@ fn check_two(
     ends: &mut [u8],
     entry: u8,
     levels: u8,
-    room: &Room,
+    room: Room,
 ) -> Result<u8, u8>
     requires { Sized entries.now ends.old }
-    ensures { CheckedFrom entries.now ends.old ends.new entry (end_of (end_at entries.now levels room.now false) 2 entry) result }
+    ensures { CheckedFrom entries.now ends.old ends.new entry (end_of (end_at entries.now levels (room_of room) false) 2 entry) result }
 {
     let second = check_at(entries, ends, false, entry, levels, room)?;
     check_at(entries, ends, false, second, levels, room)
@@ -203,10 +105,10 @@ fn check_choice(
     ends: &mut [u8],
     entry: u8,
     levels: u8,
-    room: &Room,
+    room: Room,
 ) -> Result<u8, u8>
     requires { Sized entries.now ends.old }
-    ensures { let ends_of = end_at entries.now levels room.now in
+    ensures { let ends_of = end_at entries.now levels (room_of room) in
         CheckedFrom entries.now ends.old ends.new entry (end_below (ends_of false) (ends_of true) 3 entry) result }
 {
     let first = check_at(entries, ends, true, entry, levels, room)?;
@@ -218,7 +120,7 @@ pub fn check_program(entries: &EntryLines, ends: &mut [u8]) -> Result<u8, u8>
     requires { Sized entries.now ends.old }
     ensures { CheckedWhole entries.now ends.new result }
 {
-    let next = check_at(entries, ends, false, 0, LEVELS, &Room::whole())?;
+    let next = check_at(entries, ends, false, 0, LEVELS, Room::whole())?;
     if (next as usize) < entries.len() {
         return Err(next);
     }

@@ -1,26 +1,54 @@
 -- What std's words for the bodies are in the words of the contracts.
-use Rattle.std.specs.Prelude.{◌≡◌, refl, Bool, true, false, cond, not, ◌&&◌, List, [], ◌∷◌, ◌++◌, map, ℕ, zero, suc, ◌+◌, ◌-◌, ◌/◌, ◌≤◌, ◌<◌, length, get_or, take, drop, nat_le, nat_lt, unwrap_or, Some, None}
-use Rattle.std.proofs.Common.{sym, ap, ap₂, ◌∙◌, arith, take-take, take-append-drop, length-take-le, append_assoc, ltb, take_all}
+use Rattle.std.specs.Prelude.{◌≡◌, refl, ◌⊎◌, Bool, true, false, cond, not, ◌&&◌, List, [], ◌∷◌, ◌++◌, map, ℕ, zero, suc, ◌+◌, ◌-◌, ◌/◌, ◌≤◌, ◌<◌, length, get_or, take, drop, nat_le, nat_lt, unwrap_or, Some, None}
+use Rattle.std.proofs.Common.{inl, inr, sym, ap, ap₂, ◌∙◌, arith, take-take, take-append-drop, length-take-le, append_assoc, ltb, take_all}
+use Rattle.std.proofs.lemmas.Bool.{cases_lt}
 use Rattle.std.proofs.lemmas.Bool.Decides.{nat_tests}
 use Rattle.std.proofs.lemmas.List.{length-map, drop-append-le}
 use Rattle.std.proofs.lemmas.Grind.{same_number_lists}
-use Rattle.std.specs.List.{list_all, position_or_len, copy_within}
+use Rattle.std.specs.List.{list_all, position_or_len}
 use Rattle.std.proofs.lemmas.Slice.{put_mid-paste}
 use borrow.Rule.Slice.PartMut.{put_mid}
 use Rattle.lines.specs.Writing.{put_at}
-use Rattle.lines.specs.Theorems.PutAt.{put_frame, put_part, put_behind}
+use Rattle.lines.specs.Theorems.PutAt.{put_frame, put_part, put_behind, put_reads, length_put}
 use Rattle.values.specs.Values.{no_top, under, shallow}
 use Rattle.values.specs.Engine.Words.{Made, part, node_of, value_of, merged_word, merged_words}
-use Rattle.values.specs.Theorems.Extents.{length_part, slice_part, part_below}
+use Rattle.values.specs.Theorems.Extents.{length_part, get_d_part, part_below}
 use Rattle.values.proofs.Theorems.WordLaws.{top_word, merged_length}
 
 -- ## Words put into a slice
 
-pub copied_put : (w : List ℕ) (from len to : ℕ) → from + len ≤ length w → copy_within w from (from + len) to ≡ put_at w to (part w from len)
-unfolding put_at
-copied_put w from len to fits =
-    let n : from + len - from ≡ length (part w from len) = omega (arith, length_part w from len fits) in
-    rw (slice_part w from len, n)
+-- words brought from a list, place by place
+pub brought_put : (w s w' : List ℕ) (from len to : ℕ) → from + len ≤ length s → to + len ≤ length w → length w' ≡ length w
+    → ((k : ℕ) → k < len → get_or w' (to + k) 0 ≡ get_or s (from + k) 0)
+    → ((k : ℕ) → (k < to) ⊎ (to + len ≤ k) → get_or w' k 0 ≡ get_or w k 0) → w' ≡ put_at w to (part s from len)
+brought_put w s w' from len to inside room long brings keeps =
+    same_number_lists w' both (long ∙ sym (length_put w to new (omega (arith, n)))) (λ k h. each k (cases_lt k to) (cases_lt k (to + len)))
+  where
+    new : List ℕ
+    new = part s from len
+
+    both : List ℕ
+    both = put_at w to new
+
+    n : length new ≡ len
+    n = length_part s from len inside
+
+    outside : (k : ℕ) → (k < to) ⊎ (to + length new ≤ k) → get_or w' k 0 ≡ get_or both k 0
+    outside k side =
+        keeps k (rw n at side)
+        ∙ sym (rw (take_all (length new) new (omega arith)) at (put_reads w to new (length new) (omega arith) (omega (arith, n)) k side))
+
+    within : (j : ℕ) → j < len → get_or w' (to + j) 0 ≡ get_or both (to + j) 0
+    within j h =
+        brings j h ∙ sym (get_d_part s from len j h)
+        ∙ ap (λ (l : List ℕ). get_or l j 0) (sym (put_part w to new (omega arith)) ∙ ap (λ (m : ℕ). take m (drop to both)) n) ∙ get_d_part both to len j h
+
+    each : (k : ℕ) → (k < to) ⊎ (to ≤ k) → (k < to + len) ⊎ (to + len ≤ k) → get_or w' k 0 ≡ get_or both k 0
+    each k (inl before) _ = outside k (inl before)
+    each k (inr after) (inr behind) = outside k (inr (omega (arith, n)))
+    each k (inr after) (inl before) =
+        ap (λ (m : ℕ). get_or w' m 0) (let z : k ≡ to + (k - to) = omega arith in z) ∙ within (k - to) (omega arith)
+        ∙ ap (λ (m : ℕ). get_or both m 0) (let z : to + (k - to) ≡ k = omega arith in z)
 
 pub mid_put : (w : List ℕ) (to k : ℕ) (ys new : List ℕ) → ys ≡ new → k ≡ length new → put_mid to k w ys ≡ put_at w to new
 unfolding put_at

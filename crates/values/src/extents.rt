@@ -37,22 +37,45 @@ impl Extent {
     }
 }
 
-// To another place, which may lie over the extent.
-#[tactic(auto, using(crate::proofs::Words::copied_put))]
+// To another place, which may lie over the extent: no word is written before it is read.
+// Stays: word by word, here and in `bring`: for the slice's own methods the archive would need memmove of its host.
 pub fn copy(work: &mut [u32], from: Extent, to: usize)
     requires { LiesIn from work.old × (to + from.len ≤ length work.old) }
     ensures { work.new ≡ put_at work.old to (part work.old from.start from.len) }
 {
-    work.copy_within(from.start..from.start + from.len, to);
+    if to <= from.start {
+        copy_from_first(work, from, to);
+    } else {
+        copy_from_last(work, from, to);
+    }
+}
+
+fn copy_from_first(work: &mut [u32], from: Extent, to: usize)
+    requires { LiesIn from work.old × (to ≤ from.start) }
+    ensures { work.new ≡ put_at work.old to (part work.old from.start from.len) }
+{
+    for i in 0..from.len {
+        work[to + i] = work[from.start + i];
+    }
+}
+
+fn copy_from_last(work: &mut [u32], from: Extent, to: usize)
+    requires { (from.start ≤ to) × (to + from.len ≤ length work.old) }
+    ensures { work.new ≡ put_at work.old to (part work.old from.start from.len) }
+{
+    for i in (0..from.len).rev() {
+        work[to + i] = work[from.start + i];
+    }
 }
 
 // From one slice into another.
-#[tactic(auto, using(crate::proofs::Words::mid_put))]
 pub fn bring(work: &mut [u32], to: usize, other: &[u32], from: Extent)
     requires { (to + from.len ≤ length work.old) × LiesIn from other.now }
     ensures { work.new ≡ put_at work.old to (part other.now from.start from.len) }
 {
-    work[to..to + from.len].copy_from_slice(from.words(other));
+    for i in 0..from.len {
+        work[to + i] = other[from.start + i];
+    }
 }
 
 #[tactic(auto, using(crate::proofs::Words::mid_put))]

@@ -7,6 +7,7 @@ use Rattle.lines.specs.Masters.{master_bounds}
 use Rattle.lines.specs.Verdicts.{reply}
 use Rattle.lines.specs.Views.{counted_lines}
 use Rattle.lines.specs.Writing.{file_of}
+use Rattle.lines.specs.Engine.Starts.{lines_of, entries_of}
 use Rattle.lines.specs.Engine.Sums.{text_sum}
 use Rattle.lines.specs.Engine.Writes.{AllWritable}
 use Rattle.values.specs.Values.{within_bounds}
@@ -77,10 +78,11 @@ pub record ProgramGoes (program : List ℕ) (E : List Entry) : Type 0 where
   pub read : read_program E ≡ gives tree
   pub judged : judged_program program ≡ gives tree
 
--- and the ends of their subtrees
-abbrev pub ProgramJudged : List ℕ → List ℕ → Answer (List Entry) Refusal → Type 0
-ProgramJudged program ends (Ok E) = ProgramGoes program E × Ended E (take (length E) ends)
-ProgramJudged program ends (Err r) = Refuses (judged_program program) r
+-- n entries begin at the first n starts, and the first n ends are those of their subtrees
+abbrev pub ProgramJudged : List ℕ → List ℕ → List ℕ → Answer ℕ Refusal → Type 0
+ProgramJudged program starts ends (Ok n) =
+    let E = entries_of program (take n starts) in (n ≤ 96) × ProgramGoes program E × Ended E (take n ends)
+ProgramJudged program starts ends (Err r) = Refuses (judged_program program) r
 
 -- a sound master: its lines
 pub record MasterGoes (putting : Bool) (master : List ℕ) (ls : List Line) : Type 0 where
@@ -90,9 +92,10 @@ pub record MasterGoes (putting : Bool) (master : List ℕ) (ls : List Line) : Ty
   pub form : AllWritable ls
   pub judged : judged_master putting master ≡ gives ls
 
-abbrev pub MasterJudged : Bool → List ℕ → Answer (List Line) Refusal → Type 0
-MasterJudged putting master (Ok ls) = MasterGoes putting master ls
-MasterJudged putting master (Err r) = Refuses (judged_master putting master) r
+-- n lines begin at the first n starts
+abbrev pub MasterJudged : Bool → List ℕ → List ℕ → Answer ℕ Refusal → Type 0
+MasterJudged putting master starts (Ok n) = (n ≤ 128) × MasterGoes putting master (lines_of master (take n starts))
+MasterJudged putting master starts (Err r) = Refuses (judged_master putting master) r
 
 -- ## The run
 
@@ -124,15 +127,14 @@ abbrev pub after_run : Bool → List ℕ → List ℕ → (Transformation → Li
 after_run putting master program rest =
     judged_program program >>= (λ X. judged_master putting master >>= (λ ls. ran (showing (one_master ls) X) >>= (λ o. rest X ls o)))
 
-pub record RunReached (putting : Bool) (master program w : List ℕ) (r : Reached) : Type 0 where
-  pub of_program : ProgramGoes program r.inputs.entries
-  pub ended : Ended r.inputs.entries r.inputs.ends.now
-  pub of_master : MasterGoes putting master r.inputs.nodes
-  pub of_run : RunGoes r.inputs.entries r.inputs.nodes w r.shown
+pub record RunReached (putting : Bool) (master program starts ends lines w : List ℕ) (r : Reached) : Type 0 where
+  pub of_program : ProgramJudged program starts ends (Ok r.entries)
+  pub of_master : MasterJudged putting master lines (Ok r.nodes)
+  pub of_run : RunGoes (entries_of program (take r.entries starts)) (lines_of master (take r.nodes lines)) w r.shown
 
-abbrev pub ReachedBy : Bool → List ℕ → List ℕ → List ℕ → Answer Reached Refusal → Type 0
-ReachedBy putting master program w (Ok r) = RunReached putting master program w r
-ReachedBy putting master program w (Err r) =
+abbrev pub ReachedBy : Bool → List ℕ → List ℕ → List ℕ → List ℕ → List ℕ → List ℕ → Answer Reached Refusal → Type 0
+ReachedBy putting master program starts ends lines w (Ok r) = RunReached putting master program starts ends lines w r
+ReachedBy putting master program starts ends lines w (Err r) =
     (rest : Transformation → List Line → Shown → Judged (List Line)) → Refuses (after_run putting master program rest) r
 
 -- ## Writing
@@ -182,9 +184,10 @@ pub record ViewGoes (fresh : List Line) (edited : List ℕ) (es : List Line) : T
   pub form : AllWritable es
   pub judged : judged_view fresh edited ≡ gives es
 
-abbrev pub ViewJudged : List Line → List ℕ → Answer (List Line) Refusal → Type 0
-ViewJudged fresh edited (Ok es) = ViewGoes fresh edited es
-ViewJudged fresh edited (Err r) = Refuses (judged_view fresh edited) r
+-- n lines begin at the first n starts
+abbrev pub ViewJudged : List Line → List ℕ → List ℕ → Answer ℕ Refusal → Type 0
+ViewJudged fresh edited starts (Ok n) = (n ≤ 128) × ViewGoes fresh edited (lines_of edited (take n starts))
+ViewJudged fresh edited starts (Err r) = Refuses (judged_view fresh edited) r
 
 -- the sums of the lines' texts, one beside each line
 abbrev pub Summed : List Line → List ℕ → Type 0

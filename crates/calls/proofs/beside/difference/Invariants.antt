@@ -5,6 +5,7 @@ use lib.ListN.{length, drop}
 use mathlib.Core.Bool.{true}
 use Rattle.lines.specs.Texts.{same_text}
 use Rattle.lines.specs.Views.{difference_from, first_difference}
+use Rattle.lines.specs.Engine.Texts.{text_bytes}
 use Rattle.calls.specs.Engine.Parts.{view_lines}
 use Rattle.calls.proofs.beside.difference.Given as goal
 
@@ -21,4 +22,4 @@ abbrev pub decreases-lines : goal.decreases-lines
 decreases-lines l = length l.view - l.i
 
 abbrev pub invariant-loop-j : goal.invariant-loop-j
-invariant-loop-j l = same_text (drop l.j l.text) (drop l.j l.fresh) ≡ true
+invariant-loop-j l = same_text (drop l.j (text_bytes l.text)) (drop l.j (text_bytes l.fresh)) ≡ true

@@ -8,6 +8,7 @@ use Rattle.lines.specs.Hex.{between}
 use Rattle.lines.specs.Nodes.{all_of}
 use Rattle.lines.specs.Numbers.{are_digits}
 use Rattle.lines.specs.Theorems.Lists.{drop_one}
+use Rattle.lines.specs.Engine.Texts.{text_bytes}
 use Rattle.lines.proofs.numbers.are_digits.Goals as goal
 
 -- a test of the bytes from i on
@@ -19,7 +20,7 @@ all_from f t i (suc k) e = rw (drop_one t i 0 (omega arith)) (ap (λ r. f (get_o
 pub returns-then-contains : goal.returns-then-contains
 unfolding are_digits
 returns-then-contains c =
-    let t = c.args.text.now in
+    let t = text_bytes c.args.text.now in
     let from = c.args.from in
     let digits : c.all.result ≡ all_of (between 0x30 0x39) (drop from t) =
     all_from_yields_List (λ j. between 0x30 0x39 (get_or t j 0)) _ _ c.all.result c.all.ensures.ran (YieldsList-from_range from c.len-n.result _ refl refl)
@@ -30,7 +31,7 @@ returns-then-contains c =
 pub returns-else-contains : goal.returns-else-contains
 unfolding are_digits
 returns-else-contains c =
-    let t = c.args.text.now in
+    let t = text_bytes c.args.text.now in
     let from = c.args.from in
     let many : between 1 9 (length (drop from t)) ≡ false = search (rules, tests, length-drop) in
     rw (many, c.if-contains.false) refl

@@ -5,6 +5,7 @@ use Rattle.lines.specs.Nodes.{all_of}
 use Rattle.lines.specs.Numbers.{are_digits, digits_value}
 use Rattle.lines.specs.Theorems.Lists.{drop_one}
 use Rattle.lines.specs.Theorems.WholeNumbers.{digits_parts, first_digit, more_digits, digits_grow, digits_most}
+use Rattle.lines.specs.Engine.Texts.{text_bytes}
 use Rattle.lines.proofs.numbers.digits_value.Goals as goal
 
 -- what a turn knows of its digit
@@ -35,20 +36,20 @@ loop-j-init c = record { digits = (digits_parts _ c.requires).2; same = refl }
 
 pub overflow_mul-value : goal.overflow_mul-value
 overflow_mul-value c =
-    let most = (turn c.args.text.now c.args.from c.loop-j.j c.loop-j.value (omega arith) c.requires c.loop-j.invariant.digits c.loop-j.invariant.same).most in omega arith
+    let most = (turn (text_bytes c.args.text.now) c.args.from c.loop-j.j c.loop-j.value (omega arith) c.requires c.loop-j.invariant.digits c.loop-j.invariant.same).most in omega arith
 
 pub overflow_sub-value : goal.overflow_sub-value
 overflow_sub-value c =
-    let low = (turn c.args.text.now c.args.from c.loop-j.j c.loop-j.value (omega arith) c.requires c.loop-j.invariant.digits c.loop-j.invariant.same).low in omega arith
+    let low = (turn (text_bytes c.args.text.now) c.args.from c.loop-j.j c.loop-j.value (omega arith) c.requires c.loop-j.invariant.digits c.loop-j.invariant.same).low in omega arith
 
 pub overflow_add-value : goal.overflow_add-value
 overflow_add-value c =
-    let most = (turn c.args.text.now c.args.from c.loop-j.j c.loop-j.value (omega arith) c.requires c.loop-j.invariant.digits c.loop-j.invariant.same).most in omega arith
+    let most = (turn (text_bytes c.args.text.now) c.args.from c.loop-j.j c.loop-j.value (omega arith) c.requires c.loop-j.invariant.digits c.loop-j.invariant.same).most in omega arith
 
 pub loop-j-preserved : goal.loop-j-preserved
 loop-j-preserved c =
-    let t = turn c.args.text.now c.args.from c.loop-j.j c.loop-j.value (omega arith) c.requires c.loop-j.invariant.digits c.loop-j.invariant.same in
+    let t = turn (text_bytes c.args.text.now) c.args.from c.loop-j.j c.loop-j.value (omega arith) c.requires c.loop-j.invariant.digits c.loop-j.invariant.same in
     record { digits = t.left; same = rw c.byte.ensures t.same }
 
 pub returns : goal.returns
-returns c = sym (value_ends c.args.text.now c.loop-j.j c.loop-j.value (omega arith)) ∙ c.loop-j.invariant.same
+returns c = sym (value_ends (text_bytes c.args.text.now) c.loop-j.j c.loop-j.value (omega arith)) ∙ c.loop-j.invariant.same

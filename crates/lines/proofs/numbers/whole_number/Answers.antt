@@ -5,6 +5,7 @@ use mir.Val.{bool_byte}
 use mir.ValLaws.{to_z-of_z}
 use Rattle.lines.specs.Numbers.{has_minus, digits_in, are_digits, digits_value, signed}
 use Rattle.lines.specs.Theorems.WholeNumbers.{digits_most, none_outside, some_inside}
+use Rattle.lines.specs.Engine.Texts.{text_bytes}
 use Rattle.lines.proofs.numbers.whole_number.Goals as goal
 
 begins : (t : List ℕ) {b : Bool} → b ≡ has_minus t → drop (bool_byte b) t ≡ digits_in t
@@ -17,7 +18,7 @@ begins t {b} e = go b e
 
 pub returns-then-not-are_digits : goal.returns-then-not-are_digits
 returns-then-not-are_digits c =
-    let t = c.args.text.now in
+    let t = text_bytes c.args.text.now in
     sym (none_outside t (ap are_digits (sym (begins t c.has_minus-minus.ensures)) ∙ (sym c.are_digits.ensures ∙ c.if-not-are_digits.true)))
 
 pub signed-requires : goal.signed-requires
@@ -28,7 +29,7 @@ signed-requires c =
 
 pub returns : goal.returns
 returns c =
-    let t = c.args.text.now in
+    let t = text_bytes c.args.text.now in
     let minus = c.has_minus-minus.ensures in
     let from = begins t minus in
     let size = c.digits_value.ensures ∙ ap (digits_value 0) from in

@@ -1,6 +1,7 @@
 -- From byte j on the sum so far becomes that of the whole text.
 use Rattle.std.proofs.Common.{◌≡◌, ◌∙◌, sym, refl, arith, ℕ, ◌<◌, ◌≤◌, ◌+◌, ◌*◌, ◌%◌, List, length, get_or, drop, drop_of_length-le}
 use Rattle.lines.specs.Engine.Sums.{sum_from, text_sum}
+use Rattle.lines.specs.Engine.Texts.{text_bytes}
 use Rattle.lines.specs.Theorems.Lists.{drop_one}
 use Rattle.lines.proofs.text.Text.sum.Goals as goal
 
@@ -19,7 +20,7 @@ loop-j-init c = record { small = omega arith; same = refl }
 pub loop-j-preserved : goal.loop-j-preserved
 loop-j-preserved c =
     let l = c.loop-j in
-    record { small = omega arith; same = sum_goes_on c.args.self.now l.j l.sum (omega arith) c.byte.ensures ∙ l.invariant.same }
+    record { small = omega arith; same = sum_goes_on (text_bytes c.args.self.now) l.j l.sum (omega arith) c.byte.ensures ∙ l.invariant.same }
 
 pub returns : goal.returns
-returns c = let l = c.loop-j in sym (sum_ends c.args.self.now l.j l.sum (omega arith)) ∙ l.invariant.same
+returns c = let l = c.loop-j in sym (sum_ends (text_bytes c.args.self.now) l.j l.sum (omega arith)) ∙ l.invariant.same

@@ -21,11 +21,11 @@ module _ (t : List ℕ) (n : ℕ) {x : ℕ} (s : 0 < n) (h : n ≤ length t) (e 
       let same = ap length (last ∙ (sym (other_behind (take (n - 1) t) x p) ∙ (ap trimmed (sym last) ∙ k))) in
       omega arith
 
-pub returns-then-byte-ne32 : goal.returns-then-byte-ne32
-returns-then-byte-ne32 c = other_stays _ _ c.loop-j-test.true (omega arith) c.byte.ensures c.loop-j.invariant c.if-byte-ne32.true
+pub returns-then-byte-ne-SPACE : goal.returns-then-byte-ne-SPACE
+returns-then-byte-ne-SPACE c = other_stays _ _ c.loop-j-test.true (omega arith) c.byte.ensures c.loop-j.invariant c.if-byte-ne-SPACE.true
 
 pub loop-j-preserved : goal.loop-j-preserved
-loop-j-preserved c = space_goes _ _ c.loop-j-test.true (omega arith) c.byte.ensures c.loop-j.invariant c.if-byte-ne32.false
+loop-j-preserved c = space_goes _ _ c.loop-j-test.true (omega arith) c.byte.ensures c.loop-j.invariant c.if-byte-ne-SPACE.false
 
 pub returns : goal.returns
 unfolding trimmed

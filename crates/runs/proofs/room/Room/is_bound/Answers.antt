@@ -2,9 +2,9 @@
 use mathlib.Core.Path.{◌∙◌}
 use native.Mathlib.Omega.{arith}
 use Rattle.runs.proofs.TreeCheckRooms.{contains_bound}
-use Rattle.runs.proofs.tree.Room.is_bound.Goals as goal
+use Rattle.runs.proofs.room.Room.is_bound.Goals as goal
 
 pub returns : goal.returns
 returns c =
-    let r = c.self.inside in
-    rw (← c.self.view_is) (c.contains.ensures.value ∙ contains_bound c.args.byte r.bytes r.count (omega arith))
+    let r = c.args.self in
+    c.contains.ensures.value ∙ contains_bound c.args.byte r.bytes r.count (omega arith)

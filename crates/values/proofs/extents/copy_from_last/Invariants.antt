@@ -1,0 +1,9 @@
+-- The words from `i` on are where they go; all else is as it was.
+use Rattle.std.proofs.Common.{◌≡◌, ◌⊎◌, ◌+◌, ◌<◌, ◌≤◌, ℕ, length, get_or}
+use Rattle.values.proofs.extents.copy_from_last.Given as goal
+
+abbrev pub invariant-loop-i : goal.invariant-loop-i
+invariant-loop-i l =
+    (length l.work ≡ length l.initial.work)
+    × ((k : ℕ) → l.i ≤ k → k < l.from.len → get_or l.work (l.to + k) 0 ≡ get_or l.initial.work (l.from.start + k) 0)
+    × ((k : ℕ) → (k < l.to + l.i) ⊎ (l.to + l.from.len ≤ k) → get_or l.work k 0 ≡ get_or l.initial.work k 0)
